@@ -10,13 +10,13 @@ use Rattle.packet_channel.specs.declared.fault.ChannelFault.TheVariants.{NoCall,
 use Rattle.packet_channel.specs.declared.fault.ChannelFault.TheVariants.{InterruptPending}
 use Rattle.data_transfer.specs.declared.taken.Front.{Front}
 use Rattle.data_transfer.specs.declared.taken.Front.TheVariants as front
-use Rattle.line_nodes.specs.declared.fault.NodeFault.{NodeFault}
-use Rattle.line_nodes.specs.declared.fault.NodeFault.TheVariants.{Call, Channel}
-use Rattle.line_nodes.specs.declared.note.CallUser.{CallUser}
-use Rattle.line_nodes.specs.declared.note.CallUser.TheVariants as user
-use Rattle.line_nodes.specs.declared.note.UserNote.{UserNote}
-use Rattle.line_nodes.specs.declared.note.NoteKind.{NoteKind}
-use Rattle.line_nodes.specs.declared.note.NoteKind.TheVariants.{Dialled, Incoming, Connected, Cleared, Reset}
+use Rattle.user_nodes.specs.declared.fault.NodeFault.{NodeFault}
+use Rattle.user_nodes.specs.declared.fault.NodeFault.TheVariants.{Call, Channel}
+use Rattle.user_nodes.specs.declared.note.CallUser.{CallUser}
+use Rattle.user_nodes.specs.declared.note.CallUser.TheVariants as user
+use Rattle.user_nodes.specs.declared.note.UserNote.{UserNote}
+use Rattle.user_nodes.specs.declared.note.NoteKind.{NoteKind}
+use Rattle.user_nodes.specs.declared.note.NoteKind.TheVariants.{Dialled, Incoming, Connected, Cleared, Reset}
 use Rattle.x25_pad.specs.declared.answer.PadAnswer.TheVariants.{Dropped}
 use Rattle.frame_lines.specs.declared.line.Direction.{Direction}
 use Rattle.frame_lines.specs.declared.line.Direction.TheVariants.{FromDte, FromDce}

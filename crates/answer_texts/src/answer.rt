@@ -8,10 +8,10 @@ ghost use Rattle.answer_texts.specs.Answers.{frame_text, note_text, happening, a
 
 use frame_lines::Direction;
 use itoa::Buffer;
-use line_nodes::{CallUser, NodeFault, NoteKind, UserNote};
 use net_events::{Answer, Event, Outcome, Put, StepFault};
 use packet_layer::{CallFault, ChannelFault, Front};
 use std::alloc::AllocError;
+use user_nodes::{CallUser, NodeFault, NoteKind, UserNote};
 use x25_pad::PadAnswer;
 
 /// So many octets are looked at together, and added together if all of them stand for themselves.

@@ -18,7 +18,7 @@ ghost use Rattle.call_records.specs.RecordView.{shown, pair_of, step_of, grown, 
 
 use crate::ends::{Ends, Side, Slot};
 use crate::record::{EditStep, Growth, Hop, Pair, Record};
-use epochs::{Interrupt, Packet, Passed};
+use epochs::{Interrupt, Passed, PassedPacket};
 use link_timers::Role;
 use packet_codec::{Address, CallBuf, CallData};
 use packet_layer::{Front, LayerNote};
@@ -37,7 +37,7 @@ const MOST_SPARE: usize = 4;
 
 /// The book of a line: the records of the calls' two ends, the pairs of them that make a call, and for each end,
 /// channel by channel, which records belong there. Only `new` and `reserve` take memory; what is written needs room
-/// that was reserved, a packet as much as it has places: [`Packet::places`]. A call that comes in leaves no room, but
+/// that was reserved, a packet as much as it has places: [`PassedPacket::places`]. A call that comes in leaves no room, but
 /// that for pairs stays: so it can be accepted at once. The record of a call that is over keeps no spare room, once room
 /// is made again.
 #[derive(Drop)]
@@ -129,6 +129,7 @@ impl Book {
     /// Makes room for so many writes: in the lists of records and of pairs, and in the record of each present call.
     /// Without the memory there is no room, and the book is as before. In a book without records and pairs there is
     /// room for 16 writes: no memory is asked for.
+    #[inline(always)]
     pub fn reserve(&mut self, count: usize) -> Result<(), AllocError>
         ensures same { self.new.book ≡ self.old.book }
         ensures ok { OnOk result (self.new.room ≡ count) }
@@ -142,6 +143,20 @@ impl Book {
             self.pair_room = count;
             return Ok(());
         }
+        self.reserve_anew(count)
+    }
+
+    /// Makes room for so many writes where it is not known to be there: looks at all lists, and lets the records of calls
+    /// that are over give back their spare room.
+    #[inline(never)]
+    fn reserve_anew(&mut self, count: usize) -> Result<(), AllocError>
+        ensures same { self.new.book ≡ self.old.book }
+        ensures ok { OnOk result (self.new.room ≡ count) }
+        ensures pairs { OnOk result (self.new.pairs ≡ count) }
+        ensures err { OnErr result (self.new.room ≡ 0) }
+        ensures no_pairs { OnErr result (self.new.pairs ≡ 0) }
+        ensures ready { self.old.book.records ≡ [] → self.old.book.pairs ≡ [] → count ≤ 16 → IsOk result }
+    {
         self.room = 0;
         self.pair_room = 0;
         self.places = 0;
@@ -239,7 +254,7 @@ impl Book {
         self.places = 0;
     }
 
-    // A call comes in at an end: it is the one that the other end placed last on this channel.
+    /// A call comes in at an end: it is the one that the other end placed last on this channel.
     fn receive_call(&mut self, role: Role, channel: u8, call: &CallBuf)
         requires { 1 ≤ self.old.room }
         ensures { self.new ≡ record self.old { book = comes role channel (parts_of call.now) self.old.book; room = 0 } }
@@ -329,7 +344,7 @@ impl Book {
     }
 
     /// A Data packet of at most 1,024 octets was accepted to be sent (X.25 4.3).
-    pub fn send(&mut self, role: Role, channel: u8, packet: Packet<'_>)
+    pub fn send(&mut self, role: Role, channel: u8, packet: PassedPacket<'_>)
         requires room { places_of packet.octets.now ≤ self.old.room }
         requires fits { length packet.octets.now ≤ 1024 }
         ensures { self.new ≡ record self.old {
@@ -369,7 +384,7 @@ impl Book {
                 delivery,
                 ..
             } => {
-                let packet = Packet {
+                let packet = PassedPacket {
                     octets,
                     more,
                     qualified,
@@ -381,7 +396,7 @@ impl Book {
     }
 
     /// A Data packet of at most 1,024 octets was taken.
-    pub fn take_packet(&mut self, role: Role, channel: u8, packet: Packet<'_>)
+    pub fn take_packet(&mut self, role: Role, channel: u8, packet: PassedPacket<'_>)
         requires room { places_of packet.octets.now ≤ self.old.room }
         requires fits { length packet.octets.now ≤ 1024 }
         ensures { self.new ≡ record self.old {
@@ -462,7 +477,8 @@ impl Book {
         go_on_at(&mut self.records, number, hop);
     }
 
-    // The record of the present call on a channel grows by a write.
+    /// The record of the present call on a channel grows by a write.
+    #[inline(always)]
     fn grow(&mut self, role: Role, channel: u8, growth: Growth<'_>)
         requires room { needed growth ≤ self.old.room }
         requires fits { Fits growth }
@@ -481,8 +497,8 @@ impl Book {
     }
 }
 
-// The call of this record, if there is one, is over: the record is listed, to give back its spare room when room is
-// made next.
+/// The call of this record, if there is one, is over: the record is listed, to give back its spare room when room is
+/// made next.
 fn note_end(over: &mut Vec<usize>, present: Option<usize>)
     ensures { vec_len over.old < vec_capacity over.old → over.new.items ≡ over.old.items ++ option_to_list present }
 {
@@ -504,14 +520,15 @@ pub fn calling_of(call: &CallData<'_>) -> Option<Address>
     }
 }
 
-// An address, as a record has it.
+/// An address, as a record has it.
 fn recorded(address: &Address) -> Option<Address>
     ensures { result ≡ address_of address.now }
 {
     Some(Address::new(address.digits()))
 }
 
-// The record of this number grows by a write, if there is one.
+/// The record of this number grows by a write, if there is one.
+#[inline(always)]
 fn grow_at(records: &mut Vec<Record>, number: usize, growth: Growth<'_>)
     requires places { PlacesAt (needed growth) number records.old.items }
     requires fits { Fits growth }
@@ -527,7 +544,7 @@ fn grow_at(records: &mut Vec<Record>, number: usize, growth: Growth<'_>)
     }
 }
 
-// The call of the record of this number goes on over one more hop, if there is the record.
+/// The call of the record of this number goes on over one more hop, if there is the record.
 fn go_on_at(records: &mut Vec<Record>, number: usize, hop: Hop)
     ensures shown { map shown records.new.items
         ≡ changed_at number (with_hop (hop_of hop)) (map shown records.old.items) }
@@ -541,7 +558,7 @@ fn go_on_at(records: &mut Vec<Record>, number: usize, hop: Hop)
     }
 }
 
-// Makes room in the record of this number, if there is one.
+/// Makes room in the record of this number, if there is one.
 fn reserve_at(records: &mut Vec<Record>, number: usize, count: usize) -> Result<(), AllocError>
     ensures same { map shown records.new.items ≡ map shown records.old.items }
     ensures len { vec_len records.new ≡ vec_len records.old }
@@ -557,7 +574,7 @@ fn reserve_at(records: &mut Vec<Record>, number: usize, count: usize) -> Result<
     Ok(())
 }
 
-// Makes room in the records of the present calls of an end.
+/// Makes room in the records of the present calls of an end.
 fn reserve_present(records: &mut Vec<Record>, side: &Side, count: usize) -> Result<(), AllocError>
     ensures same { map shown records.new.items ≡ map shown records.old.items }
     ensures len { vec_len records.new ≡ vec_len records.old }
@@ -574,8 +591,8 @@ fn reserve_present(records: &mut Vec<Record>, side: &Side, count: usize) -> Resu
     Ok(())
 }
 
-// Makes room in the records of the present calls of both ends. The records of calls that are over give back their spare
-// room first, and are not listed any more. Without a record nothing is asked for.
+/// Makes room in the records of the present calls of both ends. The records of calls that are over give back their spare
+/// room first, and are not listed any more. Without a record nothing is asked for.
 fn reserve_in_records(
     alloc: Global,
     records: &mut Vec<Record>,
@@ -594,7 +611,7 @@ fn reserve_in_records(
     if records.is_empty() {
         return Ok(());
     }
-    give_back(alloc, records, over.as_slice(), spare)?;
+    drop_spare(alloc, records, over.as_slice(), spare)?;
     over.clear();
     over.reserve(ends.channels())?;
     reserve_present(records, ends.of(Role::Dte), count)?;
@@ -602,8 +619,8 @@ fn reserve_in_records(
     Ok(())
 }
 
-// The records of these numbers give back their spare room.
-fn give_back(
+/// The records of these numbers give back their spare room.
+fn drop_spare(
     alloc: Global,
     records: &mut Vec<Record>,
     numbers: &[usize],
@@ -615,13 +632,13 @@ fn give_back(
     ensures fits { OnOk result (NoPlacesAt numbers.now records.new.items) }
 {
     for number in numbers {
-        give_back_at(alloc, records, *number, spare)?;
+        drop_spare_at(alloc, records, *number, spare)?;
     }
     Ok(())
 }
 
-// So does the record of this number, if there is one.
-fn give_back_at(
+/// So does the record of this number, if there is one.
+fn drop_spare_at(
     alloc: Global,
     records: &mut Vec<Record>,
     number: usize,
@@ -636,7 +653,7 @@ fn give_back_at(
 {
     if number < records.len() {
         let record = &mut records[number];
-        record.give_back(alloc, spare)?;
+        record.drop_spare(alloc, spare)?;
     }
     Ok(())
 }

@@ -4,7 +4,7 @@ ghost use Rattle.call_records.specs.Records.{new_record, with_epoch, with_hop};
 ghost use Rattle.call_records.specs.RecordView.{shown, grown, needed, left, Fits, HasPlaces, HasNoPlaces, hop_of};
 
 use arrayvec::ArrayVec;
-use epochs::{Interrupt, Packet, Passed, give_back};
+use epochs::{Interrupt, Passed, PassedPacket, drop_spare};
 use packet_codec::Address;
 use std::alloc::{AllocError, Global};
 use x3_params::Params;
@@ -68,11 +68,11 @@ pub struct Pair {
 #[derive(Drop)]
 pub(crate) enum Growth<'a> {
     /// A packet that was accepted to be sent.
-    Sent(Packet<'a>),
+    Sent(PassedPacket<'a>),
     /// An interrupt that was accepted to be sent.
     InterruptSent(Interrupt),
     /// A packet that was taken.
-    Taken(Packet<'a>),
+    Taken(PassedPacket<'a>),
     /// An interrupt that was taken.
     InterruptTaken(Interrupt),
     /// So many more of the packets sent are covered.
@@ -89,6 +89,7 @@ pub(crate) enum Growth<'a> {
 
 impl Growth<'_> {
     /// The room that it leaves.
+    #[inline(always)]
     pub(crate) fn left(&self, room: usize) -> usize
         requires { needed self.now ≤ room }
         ensures { result ≡ left self.now room }
@@ -140,6 +141,7 @@ impl Record {
     }
 
     /// Grows by a write.
+    #[inline(always)]
     pub(crate) fn grow(&mut self, growth: Growth<'_>)
         requires places { HasPlaces (needed growth) self.old }
         requires fits { Fits growth }
@@ -170,7 +172,7 @@ impl Record {
     }
 
     /// Gives back what room there is beyond what the record has, as far as there is memory for it.
-    pub(crate) fn give_back(
+    pub(crate) fn drop_spare(
         &mut self,
         alloc: Global,
         spare: &mut Vec<Passed>,
@@ -178,12 +180,12 @@ impl Record {
         ensures same { shown self.new ≡ shown self.old }
         ensures fits { OnOk result (HasNoPlaces self.new) }
     {
-        self.sent.give_back(alloc, spare)?;
-        self.taken.give_back(alloc, spare)?;
-        give_back(alloc, &mut self.steps)
+        self.sent.drop_spare(alloc, spare)?;
+        self.taken.drop_spare(alloc, spare)?;
+        drop_spare(alloc, &mut self.steps)
     }
 
-    // Opens an epoch in both directions.
+    /// Opens an epoch in both directions.
     fn open_epoch(&mut self)
         requires { HasPlaces 1 self.old }
         ensures { shown self.new ≡ with_epoch (shown self.old) }

@@ -100,6 +100,7 @@ impl Register {
 
     /// Opens the book at a line, and makes room there for so many writes and pairs. Without the memory there is no
     /// room, and the register is as before. If the register has no record and no pair, there is room for 16 writes.
+    #[inline(always)]
     pub fn open(&mut self, line: usize, count: usize) -> Result<(), AllocError>
         ensures same { register_of self.new ≡ register_of self.old }
         ensures lines { length self.new.lines.items ≡ length self.old.lines.items }
@@ -112,6 +113,20 @@ impl Register {
         if self.open == Some(line) {
             return self.book.reserve(count);
         }
+        self.exchange_to(line, count)
+    }
+
+    /// Opens the book at a line where it is not open, and makes room there.
+    #[inline(never)]
+    fn exchange_to(&mut self, line: usize, count: usize) -> Result<(), AllocError>
+        ensures same { register_of self.new ≡ register_of self.old }
+        ensures lines { length self.new.lines.items ≡ length self.old.lines.items }
+        ensures at { line < length self.old.lines.items → IsOpen line self.new }
+        ensures book { line < length self.old.lines.items → self.new.book.book ≡ book_at line (register_of self.old) }
+        ensures room { OnOk result (self.new.book.room ≡ count) }
+        ensures pairs { OnOk result (self.new.book.pairs ≡ count) }
+        ensures ready { HasNoRecords (register_of self.old) → count ≤ 16 → IsOk result }
+    {
         self.close();
         exchange(&mut self.book, &mut self.lines, line);
         self.open = Some(line);
@@ -152,7 +167,7 @@ impl Register {
         }
     }
 
-    // The number of the record that a channel at an end of a line holds.
+    /// The number of the record that a channel at an end of a line holds.
     fn holder(&self, at: ChannelEnd) -> Option<usize>
         requires { IsClosed self.now }
         ensures { result ≡ holder_at (end_of at) (register_of self.now) }
@@ -164,7 +179,7 @@ impl Register {
         }
     }
 
-    // Closes the book: the ends in it go to their own line.
+    /// Closes the book: the ends in it go to their own line.
     fn close(&mut self)
         ensures same { register_of self.new ≡ register_of self.old }
         ensures lines { length self.new.lines.items ≡ length self.old.lines.items }

@@ -96,7 +96,7 @@ impl CallState {
     }
 }
 
-// The step of the row that the event meets.
+/// The step of the row that the event meets.
 fn met(role: Role, state: CallState, event: CallEvent) -> CallStep
     requires { IsSome (step_of role state event) }
     ensures { step_of role state event ≡ Some result }
@@ -129,7 +129,7 @@ fn moves(state: CallState, owed: Option<PacketType>, note: CallNote) -> CallStep
     }
 }
 
-// A packet that has no place in the state: this end clears.
+/// A packet that has no place in the state: this end clears.
 fn refuses(role: Role, state: CallState, note: CallNote) -> CallStep
     ensures { result
         ≡ call_step (state_of role OwnClear) (Some PacketType.ClearRequest) note (Some (diagnostic_of state)) }
@@ -142,7 +142,7 @@ fn refuses(role: Role, state: CallState, note: CallNote) -> CallStep
     }
 }
 
-// The user of this end clears.
+/// The user of this end clears.
 fn clears(role: Role) -> CallStep
     ensures { result ≡ call_step (state_of role OwnClear) (Some PacketType.ClearRequest) CallNote.Nothing None }
 {
@@ -150,7 +150,7 @@ fn clears(role: Role) -> CallStep
     moves(CallState::own_clear(role), owed, CallNote::Nothing)
 }
 
-// The other end clears.
+/// The other end clears.
 fn is_cleared(note: CallNote) -> CallStep
     ensures { result ≡ call_step CallState.Ready (Some PacketType.ClearConfirmation) note None }
 {
@@ -158,7 +158,7 @@ fn is_cleared(note: CallNote) -> CallStep
     moves(CallState::Ready, owed, note)
 }
 
-// The user of this end accepts.
+/// The user of this end accepts.
 fn accepts() -> CallStep
     ensures { result ≡ call_step CallState.DataTransfer (Some PacketType.CallAccepted) CallNote.Nothing None }
 {

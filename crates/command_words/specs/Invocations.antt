@@ -2,8 +2,8 @@
 use Rattle.std.specs.Prelude.{◌≡◌, List, [], Option, Some, None, true, codes}
 use Rattle.clap.specs.Words.{App, Row, Rule, Text, first_of, new_app, new_rule, subcommand_of, with_rule}
 use Rattle.clap.specs.Words.{fault_of, with_subcommand}
-use Rattle.command_words.specs.declared.invocation.Mode.{Mode}
-use Rattle.command_words.specs.declared.invocation.Mode.TheVariants.{Sim, Run}
+use Rattle.command_words.specs.declared.invocation.RunMode.{RunMode}
+use Rattle.command_words.specs.declared.invocation.RunMode.TheVariants.{Sim, Run}
 use Rattle.command_words.specs.declared.invocation.Invocation.{Invocation}
 
 -- an option that has to be given, with the name of a file
@@ -23,7 +23,7 @@ program =
     with_subcommand (with_subcommand (nameless (new_app (codes "x25net"))) (played (codes "sim")).top)
     (played (codes "run")).top
 
-abbrev pub mode_word : Mode → Text
+abbrev pub mode_word : RunMode → Text
 mode_word Sim = codes "sim"
 mode_word Run = codes "run"
 

@@ -6,7 +6,7 @@ use thiserror::Error;
 
 /// Over which lines the script is played.
 #[derive(Clone, Copy, PartialEq, Eq)]
-pub enum Mode {
+pub enum RunMode {
     /// Over lines in memory: the word `sim`.
     Sim,
     /// Over pairs of UDP sockets: the word `run`.
@@ -16,7 +16,7 @@ pub enum Mode {
 /// A run of the program on a network file and a script file.
 #[derive(Clone, Copy)]
 pub struct Invocation<'a> {
-    pub mode: Mode,
+    pub mode: RunMode,
     /// The name of the network file.
     pub net: &'a str,
     /// The name of the script file.

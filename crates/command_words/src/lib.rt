@@ -4,5 +4,5 @@
 mod invocation;
 mod reading;
 
-pub use invocation::{Invocation, Mode, WordsFault};
+pub use invocation::{Invocation, RunMode, WordsFault};
 pub use reading::read_words;

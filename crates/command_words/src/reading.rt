@@ -5,7 +5,7 @@ ghost use Rattle.clap.specs.Words.{app_of, rule_of, subcommand_rows_of, with_sub
 ghost use Rattle.command_words.specs.Invocations.{Asks, Found, file_option, played, program};
 ghost use Rattle.command_words.specs.declared.invocation.Invocation.{Invocation};
 
-use crate::invocation::{Invocation, Mode, WordsFault};
+use crate::invocation::{Invocation, RunMode, WordsFault};
 use clap::error::ErrorKind;
 use clap::{Arg, ArgMatches, Command, Error};
 use std::alloc::{AllocError, Global};
@@ -78,8 +78,8 @@ fn invocation_of<'a>(matches: &ArgMatches<'a>) -> Option<Invocation<'a>>
 {
     let (word, found) = matches.subcommand()?;
     let mode = match word {
-        "sim" => Mode::Sim,
-        "run" => Mode::Run,
+        "sim" => RunMode::Sim,
+        "run" => RunMode::Run,
         _ => return None,
     };
     Some(Invocation {

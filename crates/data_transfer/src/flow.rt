@@ -21,7 +21,7 @@ pub struct Flow {
 }
 
 impl Flow {
-    // The largest window with this numbering.
+    /// The largest window with this numbering.
     fn most_window(&self) -> u8
         ensures { result ≡ most_window self.now.numbering }
     {
@@ -31,7 +31,7 @@ impl Flow {
         }
     }
 
-    // Whether it is one of the packet sizes.
+    /// Whether it is one of the packet sizes.
     fn is_size(&self) -> bool
         ensures { result ≡ is_size self.now.size }
     {

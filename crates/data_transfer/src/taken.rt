@@ -63,7 +63,7 @@ impl TakenBuf {
     }
 }
 
-// Copies octets into an empty text that has room for them.
+/// Copies octets into an empty text that has room for them.
 fn copy_into(text: &mut Vec<u8>, octets: &[u8])
     requires empty { text.old.items ≡ [] }
     requires places { length octets.now ≤ vec_capacity text.old }

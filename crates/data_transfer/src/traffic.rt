@@ -239,7 +239,6 @@ impl Traffic {
             && self.interrupt_waiting.is_none()
             && self.interrupt_arrived.is_none()
             && !self.confirmation_due
-            && !self.untold
-            && self.told_stopped == self.stopped
+            && self.flow_is_told()
     }
 }

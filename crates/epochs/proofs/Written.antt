@@ -6,7 +6,7 @@ use mir.Val.{bool_byte}
 use Rattle.std.proofs.lemmas.List.{append_assoc, length_push, length-append, length-take, drop-drop}
 use Rattle.epochs.specs.Item.{DataPacket}
 use Rattle.epochs.specs.Packets.{data_packet_of, bit, is_set, first_octet, second_octet, written, length_read, read_packets, AreWritten, AreThere}
-use Rattle.epochs.specs.declared.packets.Packet.{Packet}
+use Rattle.epochs.specs.declared.packets.PassedPacket.{PassedPacket}
 
 take_front : (xs ys : List ℕ) → take (length xs) (xs ++ ys) ≡ xs
 take_front [] ys = refl
@@ -170,10 +170,10 @@ fewer_there (suc k) (suc n) (a ∷ b ∷ os) h t =
     ((t.0, rest.0), ap (λ (ps : List DataPacket). first_of (a ∷ b ∷ os) ∷ ps) rest.1)
 
 -- one more is left out at the front
-next_left : (old new : List DataPacket) (r : Option Packet) → MatchOption r ((old ≡ []) × (new ≡ [])) (λ p. old ≡ data_packet_of p ∷ new) → new ≡ drop 1 old
+next_left : (old new : List DataPacket) (r : Option PassedPacket) → MatchOption r ((old ≡ []) × (new ≡ [])) (λ p. old ≡ data_packet_of p ∷ new) → new ≡ drop 1 old
 next_left old new None e = e.1 ∙ sym (ap (λ (ps : List DataPacket). drop 1 ps) e.0)
 next_left old new (Some p) e = sym (ap (λ (ps : List DataPacket). drop 1 ps) e)
 
-pub left_next : (ps old new : List DataPacket) (i : ℕ) (r : Option Packet) → old ≡ drop i ps
+pub left_next : (ps old new : List DataPacket) (i : ℕ) (r : Option PassedPacket) → old ≡ drop i ps
     → MatchOption r ((old ≡ []) × (new ≡ [])) (λ p. old ≡ data_packet_of p ∷ new) → new ≡ drop (i + 1) ps
 left_next ps old new i r e steps = next_left old new r steps ∙ ap (λ (xs : List DataPacket). drop 1 xs) e ∙ drop-drop 1 i ps

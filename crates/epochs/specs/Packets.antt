@@ -3,14 +3,14 @@ use Rattle.std.specs.Prelude.{◌≡◌, ℕ, zero, suc, ◌+◌, ◌-◌, ◌*�
 use Rattle.std.specs.Prelude.{List, [], ◌∷◌, length, take, drop}
 use Rattle.std.specs.List.{flat_map}
 use Rattle.epochs.specs.Item.{DataPacket}
-use Rattle.epochs.specs.declared.packets.Packet.{Packet}
+use Rattle.epochs.specs.declared.packets.PassedPacket.{PassedPacket}
 
 -- packets in order, and for how many octets more there is memory
 pub record PacketsState : Type 0 where
   pub packets : List DataPacket
   pub spare : ℕ
 
-abbrev pub data_packet_of : Packet → DataPacket
+abbrev pub data_packet_of : PassedPacket → DataPacket
 data_packet_of p = record { octets = p.octets.now; more = p.more; qualified = p.qualified; delivery = p.delivery }
 
 -- how many places a packet takes: one for each 128 octets that it begins, and at least one

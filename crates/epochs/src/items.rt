@@ -2,7 +2,7 @@
 ghost use Rattle.std.specs.Prelude.{◌≡◌};
 ghost use Rattle.epochs.specs.Item.{all_items};
 
-use crate::packets::{Packet, PacketsIter};
+use crate::packets::{PacketsIter, PassedPacket};
 
 /// An octet of a message, its end, and the same two where the message is qualified.
 #[derive(Clone, Copy, PartialEq, Eq)]
@@ -43,7 +43,7 @@ impl Item {
 #[derive(Drop)]
 pub(crate) struct Items<'a> {
     /// What is left of the packet in hand. Once its end was given, it counts as one with M = 1.
-    packet: Packet<'a>,
+    packet: PassedPacket<'a>,
     packets: PacketsIter<'a>,
 }
 
@@ -58,7 +58,7 @@ impl<'a> Items<'a> {
         ensures { items_left result ≡ all_items packets.entry }
     {
         Items {
-            packet: Packet {
+            packet: PassedPacket {
                 octets: &[],
                 more: true,
                 qualified: false,

@@ -14,6 +14,6 @@ mod spare;
 pub use interrupt::Interrupt;
 pub use laws::{confirmation_laws, decision_law, match_laws};
 pub use matching::matches;
-pub use packets::{Packet, PacketsIter};
+pub use packets::{PacketsIter, PassedPacket};
 pub use passed::{Epoch, Passed};
-pub use spare::give_back;
+pub use spare::drop_spare;

@@ -2,7 +2,7 @@
 ghost use Rattle.std.specs.Prelude.{◌≡◌, ◌≤◌, ◌==◌, ◌+◌, ◌-◌, ◌*◌, [], ◌∷◌, ◌++◌, OnOk, length, take, drop};
 ghost use Rattle.epochs.specs.Packets.{data_packet_of, places_of};
 
-use crate::spare::give_back;
+use crate::spare::drop_spare;
 use std::alloc::{AllocError, Global};
 use std::marker::Model;
 
@@ -14,14 +14,14 @@ const HEAD: usize = 2;
 
 /// A Data packet that passed on a call: at most 1,024 octets, and the bits M, Q and D (X.25 4.3).
 #[derive(Clone, Copy, PartialEq, Eq)]
-pub struct Packet<'a> {
+pub struct PassedPacket<'a> {
     pub octets: &'a [u8],
     pub more: bool,
     pub qualified: bool,
     pub delivery: bool,
 }
 
-impl Packet<'_> {
+impl PassedPacket<'_> {
     /// How many places it takes: one for each 128 octets that it begins, and at least one.
     pub fn places(&self) -> usize
         ensures { result ≡ places_of self.now.octets.now }
@@ -109,7 +109,7 @@ impl Packets {
     }
 
     /// Adds a packet at the end.
-    pub(crate) fn push(&mut self, packet: Packet<'_>)
+    pub(crate) fn push(&mut self, packet: PassedPacket<'_>)
         requires fits { length packet.octets.now ≤ 1024 }
         requires spare { length packet.octets.now + 2 ≤ self.old.spare }
         ensures packets { self.new.packets ≡ self.old.packets ++ data_packet_of packet.entry ∷ [] }
@@ -126,11 +126,11 @@ impl Packets {
     }
 
     /// Gives back what room there is beyond what the packets take, as far as there is memory for it.
-    pub(crate) fn give_back(&mut self, alloc: Global) -> Result<(), AllocError>
+    pub(crate) fn drop_spare(&mut self, alloc: Global) -> Result<(), AllocError>
         ensures same { self.new.packets ≡ self.old.packets }
         ensures fits { OnOk result (self.new.spare ≡ 0) }
     {
-        give_back(alloc, &mut self.written)
+        drop_spare(alloc, &mut self.written)
     }
 }
 
@@ -171,7 +171,7 @@ impl PacketsIter<'_> {
 }
 
 impl<'a> Iterator for PacketsIter<'a> {
-    type Item = Packet<'a>;
+    type Item = PassedPacket<'a>;
 
     ghost use Rattle.std.specs.Iterator.{YieldsFirstBy, item_count};
     ghost use Rattle.epochs.specs.Packets.{data_packet_of};
@@ -180,7 +180,7 @@ impl<'a> Iterator for PacketsIter<'a> {
 
     ghost remaining = { item_count (λ packets. packets) };
 
-    fn next(&mut self) -> Option<Packet<'a>> {
+    fn next(&mut self) -> Option<PassedPacket<'a>> {
         if self.count == 0 {
             return None;
         }
@@ -191,7 +191,7 @@ impl<'a> Iterator for PacketsIter<'a> {
         let (octets, others) = rest.split_at(length);
         self.written = others;
         self.count -= 1;
-        Some(Packet {
+        Some(PassedPacket {
             octets,
             more: first / 4 % 2 != 0,
             qualified: first / 2 % 2 != 0,

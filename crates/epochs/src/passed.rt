@@ -8,8 +8,8 @@ ghost use Rattle.epochs.specs.Passed.{HasSpare, HasNoSpare, HasUsed};
 ghost use Rattle.epochs.specs.EpochEnds.{outset, end_of, part_between, part_of, IsWithin};
 
 use crate::interrupt::Interrupt;
-use crate::packets::{Packet, Packets, PacketsIter};
-use crate::spare::give_back;
+use crate::packets::{Packets, PacketsIter, PassedPacket};
+use crate::spare::drop_spare;
 use std::alloc::{AllocError, Global};
 use std::marker::Model;
 use std::mem::replace;
@@ -81,7 +81,7 @@ impl Passed {
         Passed::new(alloc)
     }
 
-    // Whether certainly nothing passed.
+    /// Whether certainly nothing passed.
     #[tactic(auto, using(crate::proofs::Blank::nothing_passed))]
     fn is_blank(&self) -> bool
         ensures { OnTrue result (self.now.epochs ≡ first_epoch) }
@@ -135,7 +135,7 @@ impl Passed {
     }
 
     /// A packet passed.
-    pub fn push(&mut self, packet: Packet<'_>)
+    pub fn push(&mut self, packet: PassedPacket<'_>)
         requires fits { length packet.octets.now ≤ 1024 }
         requires spare { 130 * places_of packet.octets.now ≤ self.old.octets }
         ensures epochs { self.new.epochs ≡ with_packet (data_packet_of packet.entry) self.old.epochs }
@@ -176,7 +176,7 @@ impl Passed {
 
     /// Gives back what room there is beyond what passed, as far as there is memory for it. If nothing passed, all of it
     /// goes to the spare ones, if they are not too many.
-    pub fn give_back(&mut self, alloc: Global, spare: &mut Vec<Passed>) -> Result<(), AllocError>
+    pub fn drop_spare(&mut self, alloc: Global, spare: &mut Vec<Passed>) -> Result<(), AllocError>
         ensures same { self.new.epochs ≡ self.old.epochs }
         ensures fits { OnOk result (HasNoSpare self.new) }
     {
@@ -187,13 +187,13 @@ impl Passed {
             }
             return Ok(());
         }
-        self.packets.give_back(alloc)?;
-        give_back(alloc, &mut self.interrupts)?;
-        give_back(alloc, &mut self.ends)
+        self.packets.drop_spare(alloc)?;
+        drop_spare(alloc, &mut self.interrupts)?;
+        drop_spare(alloc, &mut self.ends)
     }
 }
 
-// Where an epoch would end that ended now.
+/// Where an epoch would end that ended now.
 fn end_here(packets: &Packets, interrupts: &[Interrupt], counted: usize) -> EpochEnd
     ensures { result ≡ record {
       packets = length packets.now.packets;
@@ -208,7 +208,7 @@ fn end_here(packets: &Packets, interrupts: &[Interrupt], counted: usize) -> Epoc
     }
 }
 
-// Where the last of these epochs ended, and so where the next one begins.
+/// Where the last of these epochs ended, and so where the next one begins.
 fn last_end(ends: &[EpochEnd]) -> EpochEnd
     ensures { result ≡ end_of outset ends.now }
 {
@@ -220,7 +220,7 @@ fn last_end(ends: &[EpochEnd]) -> EpochEnd
     ends.last().copied().unwrap_or(start)
 }
 
-// What passed between two ends.
+/// What passed between two ends.
 fn epoch_between<'a>(
     packets: &'a Packets,
     interrupts: &'a [Interrupt],
@@ -238,7 +238,7 @@ fn epoch_between<'a>(
     }
 }
 
-// A count with so many more, where it is of so many; what would pass further is not counted.
+/// A count with so many more, where it is of so many; what would pass further is not counted.
 fn counted(all: usize, count: usize, more: usize) -> usize
     ensures { result ≡ counted_of all count more }
 {

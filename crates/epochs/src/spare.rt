@@ -6,7 +6,7 @@ use std::mem::replace;
 
 /// Moves a list into a block of its own size, and gives back the one in which it was. Without the memory it stays
 /// there.
-pub fn give_back<T: Drop>(alloc: Global, list: &mut Vec<T>) -> Result<(), AllocError>
+pub fn drop_spare<T: Drop>(alloc: Global, list: &mut Vec<T>) -> Result<(), AllocError>
     ensures same { list.new.items ≡ list.old.items }
     ensures fits { OnOk result (vec_capacity list.new ≡ vec_len list.new) }
 {

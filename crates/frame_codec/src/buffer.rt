@@ -84,7 +84,7 @@ impl FrameBuf {
     }
 }
 
-// In line it takes registers from all that stands around it.
+/// In line it takes registers from all that stands around it.
 #[inline(never)]
 fn write_at(place: &mut [u8], start: usize, octets: &[u8])
     requires { start + length octets.now ≤ length place.old }

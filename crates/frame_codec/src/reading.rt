@@ -61,7 +61,7 @@ fn frame_in(bytes: &[u8], at: Role, info: u16) -> Result<Frame<'_>, FrameFault>
     }
 }
 
-// What follows the address octet.
+/// What follows the address octet.
 #[inline(always)]
 fn framed(response: bool, control: u8, field: &[u8], info: u16) -> Result<Frame<'_>, FrameFault>
     ensures { frame_read result ≡ with_head response (has_bit control 16) (content_read info response control field.now) }
@@ -94,7 +94,7 @@ fn kind_in(
     }
 }
 
-// What is a command alone and no I frame.
+/// What is a command alone and no I frame.
 fn command_in(control: u8, field: &[u8]) -> Result<FrameKind<'_>, FrameFault>
     requires { control % 2 ≡ 1 }
     ensures { (info : ℕ) → kind_read result ≡ command_read info control field.now }
@@ -106,7 +106,7 @@ fn command_in(control: u8, field: &[u8]) -> Result<FrameKind<'_>, FrameFault>
     }
 }
 
-// What is a response alone.
+/// What is a response alone.
 fn response_in(control: u8, field: &[u8]) -> Result<FrameKind<'_>, FrameFault>
     ensures { kind_read result ≡ response_read control field.now }
 {
@@ -132,7 +132,7 @@ fn information_in(control: u8, field: &[u8], info: u16) -> Result<FrameKind<'_>,
     })
 }
 
-// A frame that has no information field.
+/// A frame that has no information field.
 #[inline(always)]
 fn bare_frame<'a>(kind: FrameKind<'a>, field: &[u8]) -> Result<FrameKind<'a>, FrameFault>
     ensures { kind_read result ≡ bare (content_of kind.entry) field.now }

@@ -64,7 +64,7 @@ fn control_octet(kind: &FrameKind<'_>, pf: bool) -> u8
     }
 }
 
-// V(S), whether a response was rejected, and V(R).
+/// V(S), whether a response was rejected, and V(R).
 fn states_octet(report: &Rejection) -> u8
     requires vs { report.now.vs < 8 }
     requires vr { report.now.vr < 8 }
@@ -73,7 +73,7 @@ fn states_octet(report: &Rejection) -> u8
     octet_of(report.vr, report.response, report.vs)
 }
 
-// W, X, Y and Z.
+/// W, X, Y and Z.
 fn reasons_octet(report: &Rejection) -> u8
     ensures { result ≡ reasons_of (report_of report.now) }
 {

@@ -100,7 +100,7 @@ impl Flying {
     }
 }
 
-// Moves the frames that were not taken to the front.
+/// Moves the frames that were not taken to the front.
 #[cold]
 #[inline(never)]
 fn make_room(places: &mut [FrameBuf], taken: &mut usize, end: &mut usize)

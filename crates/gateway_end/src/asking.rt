@@ -50,7 +50,7 @@ pub(crate) fn next_packet(
     }
 }
 
-// What a request comes to before which a packet was taken.
+/// What a request comes to before which a packet was taken.
 fn after_taken(next: Work) -> Work
     ensures packet { (packet : List ℕ) → served result packet ≡ served next packet }
     ensures sends { result ≡ work.Sends → next ≡ work.Sends }
@@ -61,8 +61,8 @@ fn after_taken(next: Work) -> Work
     }
 }
 
-// Asks the connections from one number up to another, until one has a packet for the line. The next one has the turn
-// then.
+/// Asks the connections from one number up to another, until one has a packet for the line. The next one has the turn
+/// then.
 fn serve_among(
     calls: &mut XotCalls,
     from: usize,

@@ -143,7 +143,7 @@ impl GatewayEnd {
         self.next.is_some()
     }
 
-    // Packets of the calls pass to the link, as many as it takes. What waits goes first.
+    /// Packets of the calls pass to the link, as many as it takes. What waits goes first.
     fn pass_packets(&mut self) -> bool
         ensures pass { Pass self.old self.new }
         ensures held_back { IsHeldBack self.new }
@@ -158,7 +158,7 @@ impl GatewayEnd {
         took
     }
 
-    // The next packet of the calls passes to the link. The answer is whether the link took it.
+    /// The next packet of the calls passes to the link. The answer is whether the link took it.
     fn pass_next(&mut self, took: &mut bool) -> bool
         ensures pass { Pass self.old self.new }
         ensures held_back { IsHeldBack self.new }
@@ -168,7 +168,7 @@ impl GatewayEnd {
         self.hand_over()
     }
 
-    // Asks the calls for the next packet, if none waits, and says whether they had one.
+    /// Asks the calls for the next packet, if none waits, and says whether they had one.
     fn ask(&mut self) -> bool
         ensures { Pass self.old self.new }
     {
@@ -191,7 +191,7 @@ impl GatewayEnd {
         }
     }
 
-    // Offers the packet that waits to the link, and says whether the link took it.
+    /// Offers the packet that waits to the link, and says whether the link took it.
     fn hand_over(&mut self) -> bool
         ensures pass { Pass self.old self.new }
         ensures held_back { IsHeldBack self.new }
@@ -199,7 +199,7 @@ impl GatewayEnd {
         let Some(packet) = &self.next else {
             return false;
         };
-        if !self.line.has_room() {
+        if !self.line.can_offer() {
             return false;
         }
         let _ = self.line.offer(packet.as_slice(), &mut self.pool);

@@ -42,7 +42,7 @@ enum FrameStep<'a> {
     Ready(bool),
 }
 
-// Does a step, and answers whether it is as the example says.
+/// Does a step, and answers whether it is as the example says.
 fn takes(end: &mut GatewayEnd, step: FrameStep<'_>) -> bool {
     match step {
         Attaches(_) | Comes(..) | Writes(..) => takes_at(end, step),
@@ -54,7 +54,7 @@ fn takes(end: &mut GatewayEnd, step: FrameStep<'_>) -> bool {
     }
 }
 
-// What happens at the line.
+/// What happens at the line.
 fn happens(end: &mut GatewayEnd, step: FrameStep<'_>) -> bool {
     match step {
         Arrives(frame) => end.on_frame(frame),
@@ -66,7 +66,7 @@ fn happens(end: &mut GatewayEnd, step: FrameStep<'_>) -> bool {
     true
 }
 
-// What happens at a connection.
+/// What happens at a connection.
 fn takes_at(end: &mut GatewayEnd, step: FrameStep<'_>) -> bool {
     match step {
         Attaches(number) => end.attach() == Some(number),
@@ -250,7 +250,7 @@ fn runs() -> [[&'static [FrameStep<'static>]; 3]; 6] {
     ]
 }
 
-// Whether a run fits after two calls.
+/// Whether a run fits after two calls.
 fn holds(alloc: Global, run: &[&[FrameStep<'_>]; 3]) -> bool {
     match GatewayEnd::new(alloc, ONE_PACKET) {
         Ok(mut end) => {

@@ -9,12 +9,12 @@ const STREAMS: u32 = 200;
 
 const OCTETS: usize = 64;
 
-// The next number of a sequence (Numerical Recipes' ranqd1).
+/// The next number of a sequence (Numerical Recipes' ranqd1).
 fn next(number: u32) -> u32 {
     number.wrapping_mul(1_664_525).wrapping_add(1_013_904_223)
 }
 
-// So many octets, by a number.
+/// So many octets, by a number.
 fn octets(seed: u32) -> [u8; OCTETS] {
     let mut number = seed;
     let mut octets = [0; OCTETS];
@@ -25,7 +25,7 @@ fn octets(seed: u32) -> [u8; OCTETS] {
     octets
 }
 
-// The same as a packet of 60 octets after a good header, of which the format is that of the line.
+/// The same as a packet of 60 octets after a good header, of which the format is that of the line.
 fn packet(seed: u32) -> [u8; OCTETS] {
     let mut packet = octets(seed);
     packet[0] = 0;
@@ -50,14 +50,14 @@ fn data_and_back() -> &'static [Step<'static>] {
     DATA_AND_BACK
 }
 
-// Whether nothing of a stream on another connection passes, and the call goes on.
+/// Whether nothing of a stream on another connection passes, and the call goes on.
 fn goes_on(bench: &mut Bench, octets: &[u8]) -> bool {
     bench.fits(&[Step::Attaches(Some(1)), Step::Octets(1, octets)])
         && bench.passes_nothing(1)
         && bench.fits(data_and_back())
 }
 
-// Whether a call goes on beside all streams.
+/// Whether a call goes on beside all streams.
 fn holds(alloc: Global) -> bool {
     let Some(mut bench) = Bench::new(alloc, LINE) else {
         return false;

@@ -206,7 +206,7 @@ fn at_the_connection() -> [Row<'static>; 5] {
     AT_THE_CONNECTION
 }
 
-// Plays each packet in the state of a row.
+/// Plays each packet in the state of a row.
 fn play_row(rt: &impl Abort, alloc: Global, packets: [Step<'static>; 5], row: &Row<'static>) {
     let state = row.state;
     for (place, packet) in packets.iter().enumerate() {
@@ -215,7 +215,7 @@ fn play_row(rt: &impl Abort, alloc: Global, packets: [Step<'static>; 5], row: &R
     }
 }
 
-// Whether a packet comes to what the row says at this place.
+/// Whether a packet comes to what the row says at this place.
 fn row_fits(alloc: Global, row: &Row<'static>, place: usize, packet: Step<'static>) -> bool {
     let (Some(mut bench), Some(outcome)) = (Bench::new(alloc, LINE), row.outcomes.get(place)) else {
         return false;

@@ -158,7 +158,7 @@ impl Bench {
         }
     }
 
-    // What happens at the line, or to all calls.
+    /// What happens at the line, or to all calls.
     fn happens(&mut self, step: Step<'_>) -> bool {
         match step {
             Step::LinkUp => self.calls.link_up(),
@@ -177,7 +177,7 @@ impl Bench {
         }
     }
 
-    // What happens at a connection. Whether all octets are taken.
+    /// What happens at a connection. Whether all octets are taken.
     fn comes(&mut self, step: Step<'_>) -> bool {
         match step {
             Step::Opened(number) => self.calls.opened(number),
@@ -222,7 +222,7 @@ impl Bench {
         true
     }
 
-    // Whether this packet is written next. Then it was written.
+    /// Whether this packet is written next. Then it was written.
     fn hears(&mut self, number: usize, packet: &[u8]) -> bool {
         let begins = match self.calls.waiting(number).strip_prefix(&header(packet)) {
             Some(rest) => rest.starts_with(packet),
@@ -233,7 +233,7 @@ impl Bench {
     }
 }
 
-// The calls once the line is in r1.
+/// The calls once the line is in r1.
 fn made_ready(mut bench: Bench, line: XotLine) -> Option<Bench> {
     if bench.fits(ready(line)) {
         Some(bench)
@@ -242,7 +242,7 @@ fn made_ready(mut bench: Bench, line: XotLine) -> Option<Bench> {
     }
 }
 
-// The header of a packet: the version, 0, and its length.
+/// The header of a packet: the version, 0, and its length.
 fn header(packet: &[u8]) -> [u8; 4] {
     let length = packet.len().min(65535);
     [0, 0, (length / 256) as u8, (length % 256) as u8]

@@ -4,7 +4,7 @@ use Rattle.std.specs.Prelude.{slice_get}
 use Rattle.std.proofs.lemmas.Option.{none-some, same_Some}
 use Rattle.packet_channel.specs.Channel.{Request}
 use Rattle.packet_end.specs.PacketEnd.{asked}
-use Rattle.joined_line.specs.Line.{SwitchLine, with_end}
+use Rattle.joined_line.specs.SwitchLine.{SwitchLine, with_end}
 use Rattle.joined_line.specs.OfLine.{asked_on}
 
 dropped : {X : Type 0} (xs : List X) (n : ℕ) (x : X) → slice_get xs n ≡ Some x → drop n xs ≡ x ∷ drop (n + 1) xs

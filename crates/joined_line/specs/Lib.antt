@@ -1,5 +1,5 @@
 pub mod Causes
-pub mod Line
+pub mod SwitchLine
 pub mod Pooled
 pub mod LineView
 pub mod OfLine

@@ -1,6 +1,6 @@
 -- What contracts see of the code's line of a switch.
 use Rattle.std.specs.Prelude.{◌≡◌, ◌+◌, ◌<◌, ◌≤◌, [], ◌++◌, length}
-use Rattle.joined_line.specs.Line.{SwitchLine}
+use Rattle.joined_line.specs.SwitchLine.{SwitchLine}
 use Rattle.joined_line.specs.Pooled.{PooledLine}
 use Rattle.joined_line.specs.declared.line.SwitchLine.TheInside.{Inside}
 

@@ -4,7 +4,7 @@ use Rattle.packet_end.specs.Params.{AreParams}
 use Rattle.packet_end.specs.PacketEnd as end
 use Rattle.packet_end.specs.Pooled.{share_with}
 use Rattle.joined_line.specs.declared.config.SwitchLineConfig.{SwitchLineConfig}
-use Rattle.joined_line.specs.Line.{SwitchLine}
+use Rattle.joined_line.specs.SwitchLine.{SwitchLine}
 
 -- the parameters are in their ranges, and the line does not stand
 pub record IsLineConfig (c : SwitchLineConfig) : Type 0 where

@@ -5,7 +5,7 @@ use Rattle.packet_channel.specs.Channel.Request.{Releasing}
 use Rattle.packet_end.specs.PacketEnd.{asked}
 use Rattle.switch_joins.specs.Direction.{Direction, releasable, released}
 use Rattle.switch_joins.specs.Joins.{Joined, nth_joined, with_nth_kept}
-use Rattle.joined_line.specs.Line.{SwitchLine}
+use Rattle.joined_line.specs.SwitchLine.{SwitchLine}
 
 -- this is asked of a channel, one after the other
 abbrev pub asked_on : (channel : ℕ) → List Request → SwitchLine → SwitchLine

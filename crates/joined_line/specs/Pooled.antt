@@ -1,7 +1,7 @@
 -- A line in the pool of its switch.
 use Rattle.std.specs.Prelude.{ℕ, List}
 use Rattle.flow_window.specs.Pool.{Buffer}
-use Rattle.joined_line.specs.Line.{SwitchLine}
+use Rattle.joined_line.specs.SwitchLine.{SwitchLine}
 
 -- what a line may have of the pool: so many buffers, each with room for so many octets
 pub record Claim : Type 0 where

@@ -1,20 +1,18 @@
 //! A line of a switch: its end, and the channels of it that are joined.
-ghost use Rattle.std.specs.Prelude.{◌≡◌, ◌≤◌, ◌<◌, true, false, ◌∷◌, [], Some, MatchOption, MatchResult, length, map, slice_get};
+ghost use Rattle.std.specs.Prelude.{◌≡◌, ◌≤◌, ◌<◌, ◌∷◌, [], Some, MatchResult, length, map, slice_get};
 ghost use Rattle.std.specs.Bool.{OnFalse, OnTrue};
 ghost use Rattle.std.specs.Option.{option_map};
 ghost use Rattle.data_transfer.specs.Packets.{Datum};
-ghost use Rattle.flow_window.specs.Pool.{IsIn, Holds, Balances, in_use};
-ghost use Rattle.data_transfer.specs.Flow.{is_size};
-ghost use Rattle.data_transfer.specs.Held.{Loses, are_short, datum_in};
+ghost use Rattle.flow_window.specs.Pool.{Pool as PoolValue, IsIn, Holds, Balances, in_use};
+ghost use Rattle.data_transfer.specs.Held.{Loses, datum_in};
 ghost use Rattle.packet_codec.specs.Packet.{IsCallValue};
 ghost use Rattle.packet_codec.specs.View.{call_view};
 ghost use Rattle.packet_channel.specs.Channel.{Request as ask};
 ghost use Rattle.packet_layer.specs.Layer as machine;
-ghost use Rattle.packet_layer.specs.Interrupting.{may_interrupt};
 ghost use Rattle.packet_channel.specs.NoteView.{maybe_note};
 ghost use Rattle.data_transfer.specs.Octets.{parts_of};
 ghost use Rattle.packet_layer.specs.RequestView.{request_of, call_refusal_of};
-ghost use Rattle.data_transfer.specs.TakenView.{maybe_taken, maybe_taken_in, maybe_buffers_in, maybe_front};
+ghost use Rattle.data_transfer.specs.TakenView.{maybe_taken, maybe_taken_in, maybe_buffers_in};
 ghost use Rattle.packet_end.specs.Params.{AreParams, info_of};
 ghost use Rattle.packet_end.specs.PacketEnd as end;
 ghost use Rattle.packet_end.specs.Pooled.{Serves};
@@ -23,9 +21,8 @@ ghost use Rattle.packet_end.specs.declared.fault.EndFault.TheVariants as fault_i
 ghost use Rattle.switch_joins.specs.Direction.{new_direction, carried, covered_by};
 ghost use Rattle.switch_joins.specs.Held.{begun};
 ghost use Rattle.switch_joins.specs.Joins.{nth_joined, with_nth_joined, gathered_by};
-ghost use Rattle.switch_joins.specs.Outline.{outline_of};
 ghost use Rattle.switch_joins.specs.Turning.{nothing_gathered, all_made, turned};
-ghost use Rattle.joined_line.specs.Line.{is_trunk, with_end, quieted, may_offer, without_joins, line_rests};
+ghost use Rattle.joined_line.specs.SwitchLine.{with_end, quieted, may_offer, without_joins, line_rests};
 ghost use Rattle.joined_line.specs.Making.{line_share, made_line};
 ghost use Rattle.joined_line.specs.OfLine.{asked_on, kept_on, freed_on};
 ghost use Rattle.joined_line.specs.Pooled.{on_line};
@@ -33,16 +30,18 @@ ghost use Rattle.joined_line.specs.Pooled.{on_line};
 use crate::config::SwitchLineConfig;
 use flow_window::pool::Pool;
 use frame_codec::FrameBuf;
-use link_timers::{Role, TimerId};
+use link_timers::TimerId;
 use packet_codec::{Address, CallData};
-use packet_end::{EndFault, MOST_FRAMES, PooledEnd};
-use packet_layer::{CallFault, Front, KeptPacket, LayerNote, Request, Taken, TakenBuf, UserData};
+use packet_end::{EndFault, PooledEnd};
+use packet_layer::{CallFault, KeptPacket, LayerNote, Request, Taken, TakenBuf};
 use std::alloc::Global;
 use std::marker::Model;
-use switch_joins::{Joined, Joins, Outline, Sizes, SwitchChannel, Turned};
+use std::ops::Deref;
+use switch_joins::{Joined, Joins, Turned};
 
 /// A line of a switch: its end, the address that calls from it get as their calling address (a trunk has none), and
-/// for each of its channels what it is joined to, if it is.
+/// for each of its channels what it is joined to, if it is. What asks about the end, without a change, is a call of
+/// [`PooledEnd`] or of the packet layer, and what asks about the joins one of [`Joins`].
 #[derive(Drop)]
 pub struct SwitchLine {
     end: PooledEnd,
@@ -62,7 +61,19 @@ impl Model for SwitchLine {
     ghost invariant = { IsLine };
 }
 
-// Puts a packet that lies in a buffer into the send queue of a channel. If it is refused, its buffer goes back.
+impl Deref for SwitchLine {
+    type Target = PooledEnd;
+
+    fn deref(&self) -> &PooledEnd
+        ensures end { result.now.end ≡ self.now.line.end }
+        ensures info { result.now.info ≡ self.now.claim.info }
+        ensures held { (pool : PoolValue) → Holds pool self.now.held → Holds pool result.now.held }
+    {
+        &self.end
+    }
+}
+
+/// Puts a packet that lies in a buffer into the send queue of a channel. If it is refused, its buffer goes back.
 fn send_on(line: &mut PooledEnd, channel: u8, packet: KeptPacket, pool: &mut Pool)
     requires { IsIn packet.buffer pool.old }
     ensures line { line.new ≡ record line.old {
@@ -103,19 +114,12 @@ impl SwitchLine {
         })
     }
 
-    /// How many channels have a place for a join, at most 32.
-    pub fn channels(&self) -> u8
-        ensures count { result ≡ length self.now.line.joined }
-        ensures most { result ≤ 32 }
+    /// The joins of its channels.
+    pub fn joins(&self) -> &Joins
+        ensures joined { result.now.joined ≡ self.now.line.joined }
+        ensures held { (pool : PoolValue) → Holds pool self.now.held → Holds pool result.now.held }
     {
-        self.joined.channels()
-    }
-
-    /// The switch's role on the line.
-    pub fn role(&self) -> Role
-        ensures { result ≡ self.now.line.end.layer.role }
-    {
-        self.end.role()
+        &self.joined
     }
 
     /// The address that calls from the line get as their calling address. A trunk has none.
@@ -123,22 +127,6 @@ impl SwitchLine {
         ensures { result ≡ self.now.line.address }
     {
         self.address
-    }
-
-    /// The channel that a channel is joined to, if it is.
-    pub fn other(&self, channel: u8) -> Option<SwitchChannel>
-        ensures { result ≡ option_map (λ j. j.other) (nth_joined self.now.line.joined channel) }
-    {
-        self.joined.other(channel)
-    }
-
-    /// The most octets of a Data packet on the line.
-    pub fn size(&self) -> u16
-        ensures size { result ≡ self.now.line.end.layer.flow.size }
-        ensures allowed { is_size result ≡ true }
-        ensures fits { result ≤ self.now.claim.info }
-    {
-        self.end.size()
     }
 
     /// Joins a channel, or ends its join. What is gathered from there is dropped.
@@ -172,40 +160,6 @@ impl SwitchLine {
         ensures { self.new ≡ on_line (kept_on channel (covered_by count)) self.old }
     {
         self.joined.cover(channel, count);
-    }
-
-    /// Whether a packet from a channel goes on as it is, in its buffer.
-    pub fn goes_whole(&self, channel: u8, sizes: Sizes) -> bool
-        ensures whole { OnTrue result (sizes.near ≡ sizes.far) }
-        ensures nothing { OnTrue result (gathered_by (nth_joined self.now.line.joined channel) ≡ nothing_gathered) }
-    {
-        self.joined.goes_whole(channel, sizes)
-    }
-
-    /// How many packets a packet from a channel makes due; `None` if one of them is longer than the size of the line
-    /// that they go to.
-    pub fn packets_due(
-        &self,
-        channel: u8,
-        sizes: Sizes,
-        packet: Outline,
-        pool: &Pool,
-    ) -> Option<usize>
-        requires { Holds pool.now self.now.held }
-        ensures { (d : Datum) → outline_of d ≡ packet →
-            let due = (turned sizes (gathered_by (nth_joined self.now.line.joined channel)) d).made in
-            MatchOption result (are_short sizes.far due ≡ false)
-            (λ count. (are_short sizes.far due ≡ true) × (count ≡ length due)) }
-    {
-        self.joined.due(channel, sizes, packet, pool)
-    }
-
-    /// What becomes of a packet from a channel.
-    pub fn turned(&self, channel: u8, sizes: Sizes, packet: &UserData, pool: &Pool) -> Turned
-        requires { Holds pool.now self.now.held }
-        ensures { result ≡ turned sizes (gathered_by (nth_joined self.now.line.joined channel)) packet.now }
-    {
-        self.joined.turned(channel, sizes, packet, pool)
     }
 
     /// A packet was taken on a channel, with D = 1 or without, and went on as it is: nothing is gathered from there.
@@ -243,13 +197,6 @@ impl SwitchLine {
         }
     }
 
-    /// Whether the line is a trunk.
-    pub fn is_trunk(&self) -> bool
-        ensures { result ≡ is_trunk (Some self.now.line) }
-    {
-        self.address.is_none()
-    }
-
     /// Begins an event.
     pub fn begin(&mut self)
         ensures { self.new ≡ on_line (with_end end.begun) self.old }
@@ -270,13 +217,6 @@ impl SwitchLine {
         self.end.on_frame(octets, pool);
     }
 
-    /// Whether a timer runs, also with no tick left.
-    pub fn is_running(&self, id: TimerId) -> bool
-        ensures { result ≡ end.runs_at self.now.line.end id }
-    {
-        self.end.is_running(id)
-    }
-
     /// Takes an expiry of a timer. If the timer does not run, nothing happens.
     pub fn on_timer(&mut self, id: TimerId, pool: &mut Pool)
         requires read { self.old.line.end.notes ≡ [] }
@@ -290,13 +230,6 @@ impl SwitchLine {
         self.end.on_timer(id, pool);
     }
 
-    /// Whether the link has to be set up again.
-    pub fn must_relink(&self) -> bool
-        ensures { result ≡ self.now.line.end.layer.relink }
-    {
-        self.end.must_relink()
-    }
-
     /// Sets the link up again.
     pub fn relink(&mut self, pool: &mut Pool)
         requires read { self.old.line.end.notes ≡ [] }
@@ -308,13 +241,6 @@ impl SwitchLine {
         ensures within { length self.new.held < self.new.claim.share }
     {
         self.end.relink(pool);
-    }
-
-    /// How many notes wait to be taken.
-    pub fn waiting_notes(&self) -> usize
-        ensures { result ≡ length self.now.line.end.notes }
-    {
-        self.end.waiting_notes()
     }
 
     /// Takes the next note, if there is one.
@@ -386,28 +312,6 @@ impl SwitchLine {
         send_on(&mut self.end, channel, packet, pool);
     }
 
-    /// What `take` would give.
-    pub fn front(&self, channel: u8, pool: &Pool) -> Option<Front>
-        requires { Holds pool.now self.now.held }
-        ensures { result ≡ maybe_front (machine.front_on self.now.line.end.layer channel) }
-    {
-        self.end.front(channel, pool)
-    }
-
-    /// How many packets a channel takes to be sent.
-    pub fn room(&self, channel: u8) -> u8
-        ensures { result ≡ machine.room self.now.line.end.layer channel }
-    {
-        self.end.room(channel)
-    }
-
-    /// Whether a channel takes an interrupt to be sent.
-    pub fn may_interrupt(&self, channel: u8) -> bool
-        ensures { result ≡ may_interrupt self.now.line.end.layer channel }
-    {
-        self.end.may_interrupt(channel)
-    }
-
     /// Places a call on a free channel, and answers the channel. `NotReady` comes if the restart is not done, then
     /// `NoChannel` if no channel is free.
     pub fn call(&mut self, call: &CallData<'_>) -> Result<u8, CallFault>
@@ -466,14 +370,6 @@ impl SwitchLine {
         self.end.out(frame)
     }
 
-    /// How many frames wait to be taken, at most [`MOST_FRAMES`].
-    pub fn waiting_frames(&self) -> usize
-        ensures count { result ≡ length self.now.line.end.line.frames }
-        ensures most { result ≤ MOST_FRAMES }
-    {
-        self.end.waiting_frames()
-    }
-
     /// Lets ticks pass, each a twentieth of a second: each timer that runs has so many less left, at least 0.
     pub fn elapse(&mut self, ticks: u16)
         ensures { self.new ≡ on_line (with_end (λ e. end.elapsed e ticks)) self.old }
@@ -486,12 +382,5 @@ impl SwitchLine {
         ensures { result ≡ line_rests self.now.line }
     {
         self.end.is_at_rest() && self.joined.gathers_nothing()
-    }
-
-    /// The first timer that runs with no tick left.
-    pub fn due(&self) -> Option<TimerId>
-        ensures { result ≡ end.due self.now.line.end }
-    {
-        self.end.due()
     }
 }

@@ -13,7 +13,7 @@ use Rattle.lapb.specs.World.{opening, happens, act_after}
 use Rattle.lapb.specs.declared.link.LinkParams.{LinkParams}
 use Rattle.lapb.specs.Octets.{on_octets}
 use Rattle.lapb.specs.Fits.{AllSpelt, IsShort, octets_of}
-use Rattle.lapb.specs.Line.{chosen, StandsIn}
+use Rattle.lapb.specs.LinkLine.{chosen, StandsIn}
 use Rattle.lapb.proofs.Reach.{reached_opening, reached_happens, reached_inv}
 use Rattle.lapb.proofs.Fitting.{fit_opening, fit_happens, octets_taken, octets-sent}
 

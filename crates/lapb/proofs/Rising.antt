@@ -24,7 +24,7 @@ use Rattle.lapb.specs.World.{stamped, kept_of, is_sabm, is_setting_up, is_up_not
 use Rattle.lapb.specs.World.{to_dce, without_first, happens, run, opening, Always}
 use Rattle.lapb.specs.Reach.{Reached}
 use Rattle.lapb.specs.Fits.{AllSpelt, octets_of}
-use Rattle.lapb.specs.Line.{StandsIn}
+use Rattle.lapb.specs.LinkLine.{StandsIn}
 use Rattle.lapb.specs.Rising.{AsksInOrder, SessionsRise, Tells, IsPlain, CallsTell}
 use Rattle.lapb.proofs.Cases.{cond_by, Each, each-kept, each-weaken}
 use Rattle.lapb.proofs.Flights.{Flight, flight-append, flight-stamped, Ups}

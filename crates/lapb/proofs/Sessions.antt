@@ -12,7 +12,7 @@ use Rattle.lapb.specs.Machine.{on_content, on_frame}
 use Rattle.lapb.specs.World.{Sent, World, Deliver, logged, emptied, is_sabm, is_up_note, to_dte, happens}
 use Rattle.lapb.specs.Octets.{on_octets}
 use Rattle.lapb.specs.Fits.{AllSpelt, octets_of}
-use Rattle.lapb.specs.Line.{StandsIn}
+use Rattle.lapb.specs.LinkLine.{StandsIn}
 use Rattle.lapb.proofs.Notes.{begins_by}
 use Rattle.lapb.proofs.Reach.{reached_inv, reached_begins_fresh}
 use Rattle.lapb.proofs.Fitting.{octets_taken}

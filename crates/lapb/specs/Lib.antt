@@ -14,6 +14,6 @@ pub mod Held
 pub mod QueueView
 pub mod NamedOctets
 pub mod Fits
-pub mod Line
+pub mod LinkLine
 pub mod Rising
 pub mod Calls

@@ -182,7 +182,7 @@ impl LinkOut {
     }
 }
 
-// Moves the frames that were not taken to the front.
+/// Moves the frames that were not taken to the front.
 #[cold]
 #[inline(never)]
 fn make_room(places: &mut [FrameBuf], taken: &mut usize, end: &mut usize)

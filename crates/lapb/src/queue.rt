@@ -147,7 +147,7 @@ impl Queue {
         self.give_back(pool);
     }
 
-    // Frees the buffer of the first packet, which was given up.
+    /// Frees the buffer of the first packet, which was given up.
     fn free_first(&mut self, pool: &mut Pool)
         requires spent { length self.old.packets < length self.old.held }
         requires holds { Holds pool.old self.old.held }
@@ -163,7 +163,7 @@ impl Queue {
     }
 }
 
-// What lies in a place, which is empty then.
+/// What lies in a place, which is empty then.
 fn take(places: &mut [Option<BufNo>], place: usize) -> Option<BufNo>
     requires { place < length places.old }
     ensures value { slice_get places.old place ≡ Some result }

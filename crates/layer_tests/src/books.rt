@@ -2,7 +2,7 @@
 ghost use Rattle.std.specs.Prelude.{◌≡◌, ◌≤◌};
 
 use call_records::{Book, Pair, Record, all_match};
-use epochs::{Packet, matches};
+use epochs::{PassedPacket, matches};
 use link_timers::Role;
 use packet_codec::{Address, CallBuf, CallData};
 use packet_layer::{LayerNote, Reason};
@@ -79,7 +79,7 @@ fn play(rt: &impl Abort, alloc: Global, examples: &[Example<'_>]) {
     }
 }
 
-// Whether the steps of an example fit at a new book of a line of four channels.
+/// Whether the steps of an example fit at a new book of a line of four channels.
 fn holds(alloc: Global, example: &Example<'_>) -> bool {
     match Book::new(alloc, DTE_NODE, DCE_NODE, 4, example.standing) {
         Ok(mut book) => fit(&mut book, example.steps),
@@ -106,7 +106,7 @@ fn fits(book: &mut Book, step: Step<'_>) -> bool {
     }
 }
 
-// Whether what the first record has as sent matches what the second one has.
+/// Whether what the first record has as sent matches what the second one has.
 fn sent_matches(book: &Book) -> Option<bool> {
     match book.records() {
         [dte, dce, ..] => Some(matches(&dte.sent, &dce.sent)),
@@ -114,7 +114,7 @@ fn sent_matches(book: &Book) -> Option<bool> {
     }
 }
 
-// Writes, where there is room for it.
+/// Writes, where there is room for it.
 fn writes(book: &mut Book, step: Step<'_>) -> bool {
     match book.reserve(8) {
         Ok(()) => {
@@ -137,7 +137,7 @@ fn write(book: &mut Book, step: Step<'_>)
     }
 }
 
-// What passes on channel 1.
+/// What passes on channel 1.
 fn pass(book: &mut Book, step: Step<'_>)
     requires { 8 ≤ book.old.room }
 {
@@ -149,10 +149,10 @@ fn pass(book: &mut Book, step: Step<'_>)
     }
 }
 
-fn packet(octets: &[u8], more: bool) -> Packet<'_>
+fn packet(octets: &[u8], more: bool) -> PassedPacket<'_>
     ensures { result.octets.now ≡ octets.now }
 {
-    Packet {
+    PassedPacket {
         octets,
         more,
         qualified: false,
@@ -160,7 +160,7 @@ fn packet(octets: &[u8], more: bool) -> Packet<'_>
     }
 }
 
-// What an end is told.
+/// What an end is told.
 fn tell(book: &mut Book, step: Step<'_>)
     requires { 8 ≤ book.old.room }
 {
@@ -172,7 +172,7 @@ fn tell(book: &mut Book, step: Step<'_>)
     }
 }
 
-// A call that comes in on a channel, with no address but the one that it calls.
+/// A call that comes in on a channel, with no address but the one that it calls.
 fn incoming(channel: u8) -> LayerNote {
     let call = CallBuf::new(&CallData {
         called: Address::new(&CALLED),

@@ -109,7 +109,7 @@ fn examples() -> &'static [Example] {
     EXAMPLES
 }
 
-// Whether one frame goes out, of these octets.
+/// Whether one frame goes out, of these octets.
 fn sends(host: &mut Host, octets: &[u8]) -> bool {
     let mut frame = FrameBuf::new();
     host.waiting_frames() == 1 && host.out(&mut frame) && frame.as_slice() == octets
@@ -124,7 +124,7 @@ fn answers(host: &mut Host, frames: &[(&[u8], &[u8])]) -> bool {
     same
 }
 
-// Whether a new host answers the frames of an example.
+/// Whether a new host answers the frames of an example.
 fn holds(alloc: Global, example: &Example) -> bool {
     let (line, frames) = *example;
     match new_host(alloc, line) {
@@ -140,7 +140,7 @@ fn hosts_answer_any_packets(rt: HostRuntime) {
     }
 }
 
-// Whether a packet with D = 1 goes out, and is confirmed once RR covers it.
+/// Whether a packet with D = 1 goes out, and is confirmed once RR covers it.
 fn is_confirmed(host: &mut Host) -> bool {
     let said = host.say(1, b"HI", false, true).is_ok() && !host.confirmed(1);
     let sent = sends(host, &[0x03, 0x00, 0x50, 0x01, 0x00, 0x48, 0x49]);
@@ -148,7 +148,7 @@ fn is_confirmed(host: &mut Host) -> bool {
     said && sent && host.confirmed(1) && sends(host, &[0x01, 0x21])
 }
 
-// Whether a packet that comes is acknowledged by the link, and by the packet layer once it is taken.
+/// Whether a packet that comes is acknowledged by the link, and by the packet layer once it is taken.
 fn is_taken(host: &mut Host) -> bool {
     host.on_frame(&[0x01, 0x22, 0x10, 0x01, 0x20, 0x58]);
     let heard = sends(host, &[0x01, 0x41]);

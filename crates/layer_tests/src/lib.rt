@@ -25,4 +25,4 @@ mod switches;
 #[cfg(test)]
 mod terminal;
 
-pub use link::{MakeFault, Terminus};
+pub use link::{LinkFault, Terminus};

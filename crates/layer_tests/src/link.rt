@@ -11,5 +11,5 @@ mod timers;
 #[cfg(test)]
 mod windows;
 
-pub use fault::MakeFault;
+pub use fault::LinkFault;
 pub use terminus::Terminus;

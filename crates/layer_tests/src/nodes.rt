@@ -1,7 +1,7 @@
 //! The faults of nodes by their words.
-use line_nodes::NodeFault;
 use packet_layer::{CallFault, ChannelFault};
 use std::alloc::Global;
+use user_nodes::NodeFault;
 
 fn has_words(alloc: Global, fault: NodeFault, words: &str) -> bool {
     match format!(in alloc; "{fault}") {

@@ -3,13 +3,13 @@ ghost use Rattle.std.specs.Prelude.{◌≡◌, ◌≤◌, [], length, vec_capaci
 
 use crate::lines::{LINE, STANDING};
 use call_records::{Book, Record};
-use line_nodes::{Attachment, CallUser, MOST_NOTES, NoteKind, UserNote, write_pad_notes};
 use link_timers::Role;
 use node_laws::pad_room_law;
 use packet_codec::Numbering;
 use packet_end::{EndFault, EndParams};
 use packet_layer::Flow;
 use std::alloc::Global;
+use user_nodes::{Attachment, CallUser, MOST_NOTES, NoteKind, UserNote, write_pad_notes};
 use x3_params::{Params, Profile};
 use x25_pad::{Pad, PadConfig};
 
@@ -49,7 +49,7 @@ const AT: Attachment = Attachment {
     node: 5,
 };
 
-// A key on a call that stands: with room for two writes all that the PAD notes is written and told.
+/// A key on a call that stands: with room for two writes all that the PAD notes is written and told.
 fn type_key(pad: &mut Pad, octet: u8, book: &mut Book, notes: &mut Vec<UserNote>)
     requires room { 2 ≤ book.old.room }
     requires pairs { 1 ≤ book.old.pairs }
@@ -64,7 +64,7 @@ fn type_key(pad: &mut Pad, octet: u8, book: &mut Book, notes: &mut Vec<UserNote>
     }
 }
 
-// Types at the first terminal, and lists what it is told at the last key. Whether there was room for all.
+/// Types at the first terminal, and lists what it is told at the last key. Whether there was room for all.
 fn type_keys(pad: &mut Pad, octets: &[u8], book: &mut Book, notes: &mut Vec<UserNote>) -> bool {
     for octet in octets {
         notes.clear();
@@ -79,7 +79,7 @@ fn type_keys(pad: &mut Pad, octets: &[u8], book: &mut Book, notes: &mut Vec<User
     true
 }
 
-// Whether three keys are written, and one packet that was sent.
+/// Whether three keys are written, and one packet that was sent.
 fn are_typed(records: &[Record]) -> bool {
     match records {
         [pad, _] => pad.steps.len() == 3 && pad.sent.last().packets.len() == 1,
@@ -87,7 +87,7 @@ fn are_typed(records: &[Record]) -> bool {
     }
 }
 
-// Whether a terminal is told that its call on channel 1 was cleared by its PAD.
+/// Whether a terminal is told that its call on channel 1 was cleared by its PAD.
 fn are_of_clearing(notes: &[UserNote]) -> bool {
     match notes {
         [note] => {
@@ -114,7 +114,7 @@ fn tells_of_clearing(pad: &mut Pad, book: &mut Book, notes: &mut Vec<UserNote>) 
     type_keys(pad, b"\x10CLR\r", book, notes) && are_of_clearing(notes.as_slice())
 }
 
-// Whether what is typed at a new PAD is written into a new book, and told.
+/// Whether what is typed at a new PAD is written into a new book, and told.
 fn is_written(alloc: Global) -> bool {
     match Book::new(alloc, 3, 4, 2, true) {
         Ok(mut book) => is_typed(alloc, &mut book),

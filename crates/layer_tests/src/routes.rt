@@ -3,7 +3,7 @@ use address_routes::{LineNo, RouteFault, Routes};
 use packet_codec::Address;
 use std::alloc::Global;
 
-// Adds a route. Whether it is refused by this fault, or by none.
+/// Adds a route. Whether it is refused by this fault, or by none.
 fn adds(routes: &mut Routes, prefix: &[u8], line: u16, fault: Option<RouteFault>) -> bool {
     match Address::read(prefix) {
         Ok(prefix) => routes.add(&prefix, LineNo(line)).err() == fault,
@@ -46,7 +46,7 @@ fn are_found(routes: &Routes, lookups: &[Lookup]) -> bool {
     found
 }
 
-// Whether of three prefixes, of which each begins the next, the longest is taken.
+/// Whether of three prefixes, of which each begins the next, the longest is taken.
 fn takes_the_longest_of_three(routes: &mut Routes) -> bool {
     adds(routes, b"2", 1, None)
         && adds(routes, b"20", 2, None)
@@ -61,7 +61,7 @@ fn nest(alloc: Global) -> bool {
     }
 }
 
-// Whether the route of the longest prefix is taken, and a prefix has one route.
+/// Whether the route of the longest prefix is taken, and a prefix has one route.
 fn takes_the_longest(routes: &mut Routes) -> bool {
     adds(routes, b"20", 1, None)
         && adds(routes, b"2001", 2, None)
@@ -78,7 +78,7 @@ fn adds_number(routes: &mut Routes, number: u16) -> bool {
     routes.add(&Address::new(&digits), LineNo(number)).is_ok()
 }
 
-// Whether there is room for 254 routes more, of three digits, and then for none.
+/// Whether there is room for 254 routes more, of three digits, and then for none.
 fn has_an_end(routes: &mut Routes) -> bool {
     let mut added = true;
     for number in 300..554u16 {

@@ -43,7 +43,7 @@ struct Partner {
     heard: ArrayVec<PacketBuf, 16>,
 }
 
-// Takes the frames that the switch sends on a line.
+/// Takes the frames that the switch sends on a line.
 fn collect_at(switch: &mut Switch, line: usize, coming: &mut ArrayVec<FrameBuf, 32>) {
     for _ in 0..16 {
         let mut frame = FrameBuf::new();
@@ -61,7 +61,7 @@ pub(crate) struct Bench {
     partners: Vec<Partner>,
 }
 
-// A line to a DTE of this address.
+/// A line to a DTE of this address.
 fn user_line(address: &[u8]) -> SwitchLineConfig {
     SwitchLineConfig {
         params: LINE,
@@ -88,7 +88,7 @@ pub(crate) enum FirstLine {
     Trunk,
 }
 
-// Lines 1 and 2 are those of the users 2 and 4.
+/// Lines 1 and 2 are those of the users 2 and 4.
 fn lines(first: FirstLine) -> [SwitchLineConfig; 3] {
     let first = match first {
         FirstLine::User => user_line(b"1"),
@@ -105,7 +105,7 @@ fn place((line, channel): (usize, u8)) -> SwitchChannel {
     SwitchChannel { line, channel }
 }
 
-// Adds the routes to the lines. Whether all are added.
+/// Adds the routes to the lines. Whether all are added.
 fn add_routes(routes: &mut Routes) -> bool {
     routes.add(&address_of(b"1"), LineNo(0)).is_ok()
         && routes.add(&address_of(b"2"), LineNo(1)).is_ok()
@@ -145,7 +145,7 @@ fn new_partner(alloc: Global, role: Role) -> Option<Partner> {
     }
 }
 
-// Adds a partner. Whether there is memory for it.
+/// Adds a partner. Whether there is memory for it.
 fn add_partner(alloc: Global, role: Role, partners: &mut Vec<Partner>) -> bool {
     match new_partner(alloc, role) {
         Some(partner) => partners.push(partner).is_ok(),
@@ -174,7 +174,7 @@ impl Bench {
         begun
     }
 
-    // Takes the frames that the switch sends.
+    /// Takes the frames that the switch sends.
     fn collect(&mut self) {
         for line in 0..self.switch.lines() {
             if let Some(partner) = self.partners.get_mut(line) {
@@ -183,7 +183,7 @@ impl Bench {
         }
     }
 
-    // A frame arrives at the switch.
+    /// A frame arrives at the switch.
     fn arrive(&mut self, line: usize, octets: &[u8]) {
         if line < self.switch.lines() {
             let _ = self.switch.on_frame(line, octets);
@@ -191,7 +191,7 @@ impl Bench {
         }
     }
 
-    // The first frame in each direction of a line arrives. Whether there was one.
+    /// The first frame in each direction of a line arrives. Whether there was one.
     fn deliver(&mut self, line: usize) -> bool {
         let mut frame = FrameBuf::new();
         let Some(partner) = self.partners.get_mut(line) else {
@@ -205,7 +205,7 @@ impl Bench {
         sent || came
     }
 
-    // All frames arrive, and those that they are answered by.
+    /// All frames arrive, and those that they are answered by.
     fn flow(&mut self) {
         for _ in 0..64 {
             let first = self.deliver(0);
@@ -226,7 +226,7 @@ impl Bench {
         fits
     }
 
-    // Does a step, and answers whether it is as the example says.
+    /// Does a step, and answers whether it is as the example says.
     fn takes(&mut self, step: Step<'_>) -> bool {
         match step {
             Step::Send(line, _)
@@ -254,7 +254,7 @@ impl Bench {
         }
     }
 
-    // Whether a channel is joined to this one, or to none.
+    /// Whether a channel is joined to this one, or to none.
     fn is_joined(&self, line: usize, channel: u8, other: Option<(usize, u8)>) -> bool {
         self.switch.joins(SwitchChannel { line, channel }) == other.map(place)
     }
@@ -270,7 +270,7 @@ impl Bench {
 }
 
 impl Partner {
-    // Does a step, and answers whether it is as the example says.
+    /// Does a step, and answers whether it is as the example says.
     fn takes(&mut self, step: Step<'_>) -> bool {
         match step {
             Step::Send(_, packet) => self.send(packet),
@@ -300,7 +300,7 @@ impl Partner {
     }
 }
 
-// The first frame that comes to a partner is taken. Whether there was one.
+/// The first frame that comes to a partner is taken. Whether there was one.
 fn hear(partner: &mut Partner) -> bool {
     if partner.coming.is_empty() {
         return false;

@@ -106,7 +106,7 @@ fn play(rt: &impl Abort, alloc: Global, examples: &[Example<'_>]) {
     }
 }
 
-// Whether the steps of an example fit at a new switch.
+/// Whether the steps of an example fit at a new switch.
 fn holds(alloc: Global, example: &Example<'_>) -> bool {
     match Bench::new(alloc, first_line(example.begins)) {
         Some(mut bench) => begins(alloc, &mut bench, example.begins) && bench.fits(example.steps),

@@ -139,7 +139,7 @@ impl Carrier {
         add_sign(&mut self.output, sign);
     }
 
-    // What this end says after its hello.
+    /// What this end says after its hello.
     fn first_sign(&self) -> Sign
         ensures { result ≡ first_sign self.now }
     {
@@ -170,7 +170,7 @@ impl Carrier {
         self.output.clear();
     }
 
-    // The partner is absent from now on, if it was there.
+    /// The partner is absent from now on, if it was there.
     fn miss(&mut self)
         ensures { self.new ≡ record self.old { absence = absence_after self.old.connection self.old } }
     {
@@ -417,7 +417,7 @@ impl Carrier {
     }
 }
 
-// The octets of a hello that came in two pieces.
+/// The octets of a hello that came in two pieces.
 fn joined(first: &[u8], second: &[u8]) -> ArrayVec<u8, HELLO>
     requires { length first.now + length second.now ≤ 48 }
     ensures { result.items ≡ first.now ++ second.now }

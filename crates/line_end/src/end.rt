@@ -48,6 +48,7 @@ use frame_codec::FrameBuf;
 use lapb::{BadParams, Link, LinkOut, LinkParams, MOST_FRAMES, Note, OfferFault, Timing};
 use link_timers::{Countdown, Role};
 use std::marker::Model;
+use std::ops::Deref;
 
 /// How long T1 runs, in ticks of a twentieth of a second (X.25 2.4.8.1).
 const T1_TICKS: u16 = 60;
@@ -66,7 +67,7 @@ pub struct Received<'a> {
 /// A node calls it in this order in each of its events: `drop_frames`, what happens at this line (a frame, an expiry,
 /// a relink), an offer of each packet that may go, `settle`; then it takes the frames by `out`. Up to [`MOST_FRAMES`]
 /// frames wait to be taken; one more is dropped, as a lost frame, which no event with at most two calls before
-/// `settle` comes to.
+/// `settle` comes to. What asks the link alone, without a change, is a call of [`Link`].
 #[derive(Drop)]
 pub struct LineEnd {
     link: Link,
@@ -84,6 +85,17 @@ impl Model for LineEnd {
     ghost view = { holding };
 
     ghost invariant = { IsEnd };
+}
+
+impl Deref for LineEnd {
+    type Target = Link;
+
+    fn deref(&self) -> &Link
+        ensures link { result.now.link ≡ self.now.end.link }
+        ensures most { self.now.end.link.k ≤ 7 }
+    {
+        &self.link
+    }
 }
 
 impl LineEnd {
@@ -283,30 +295,15 @@ impl LineEnd {
         self.out.frames().len()
     }
 
-    /// Whether `offer` takes a packet: the link is up, and fewer than k packets are unacknowledged.
-    pub fn has_room(&self) -> bool
-        ensures room { result ≡ machine.can_offer self.now.end.link }
-        ensures most { self.now.end.link.k ≤ 7 }
-    {
-        self.link.can_offer()
-    }
-
     /// Whether T1 runs, also with no tick left.
     pub fn runs_t1(&self) -> bool
         ensures { result ≡ is_some self.now.end.t1 }
     {
         self.t1.is_running()
     }
-
-    /// Whether the link is up and has nothing to wait for or to tell.
-    pub fn is_at_rest(&self) -> bool
-        ensures { result ≡ machine.at_rest self.now.end.link }
-    {
-        self.link.at_rest()
-    }
 }
 
-// Does with T1 what a call of the link asks for.
+/// Does with T1 what a call of the link asks for.
 fn set_timer(t1: &mut Countdown, change: Timing)
     ensures left { t1.new ≡ timed change t1.old }
     ensures runs { is_some t1.new ≡ runs_then change (is_some t1.old) }

@@ -6,7 +6,7 @@ use Rattle.link_timers.specs.declared.role.Role.{Role}
 use Rattle.link_timers.specs.declared.role.Role.TheVariants.{Dte, Dce}
 use Rattle.frame_lines.specs.Lines.{LineService}
 use Rattle.node_laws.specs.Quiet.{IsQuiet}
-use Rattle.line_nodes.specs.Node.{NodeState}
+use Rattle.user_nodes.specs.Node.{NodeState}
 use Rattle.net_events.specs.Network.{NetNode, User, Switching, NetLine, Network, StandsAtLines, place_at, own_role}
 use Rattle.network_laws.specs.Switched.IsSwitched.{IsEndOf, IsSwitched}
 use Rattle.net_nodes.specs.Places.{EndStands, IsStanding}

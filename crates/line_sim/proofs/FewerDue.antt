@@ -8,7 +8,7 @@ use Rattle.std.proofs.lemmas.Bool.{eq-eqb, lt-ltb}
 use Rattle.std.proofs.lemmas.Option.{same_Some, none-some}
 use Rattle.link_timers.specs.declared.timers.TimerId.{TimerId}
 use Rattle.packet_end.specs.PacketEnd as packet_end
-use Rattle.line_nodes.specs.Node.{node_due}
+use Rattle.user_nodes.specs.Node.{node_due}
 use Rattle.frame_lines.specs.Lines.{LineService}
 use Rattle.switch_lines.specs.Lines.{SwitchLine}
 use Rattle.switch_lines.specs.Switch.{due_on}

@@ -7,9 +7,9 @@ use Rattle.link_timers.specs.declared.timers.TimerId.{TimerId}
 use Rattle.packet_layer.proofs.Places.{set_same}
 use Rattle.call_records.specs.Book.{Book}
 use Rattle.call_records.specs.Register.{LineEnds, Register, found_ends, book_at, with_book}
-use Rattle.line_nodes.specs.Node.{NodeState, Pad, Host, frames_of, drained}
-use Rattle.line_nodes.specs.NodeEvents.{node_runs, expired}
-use Rattle.line_nodes.specs.Turn.{Turn, unchanged, told}
+use Rattle.user_nodes.specs.Node.{NodeState, Pad, Host, frames_of, drained}
+use Rattle.user_nodes.specs.NodeEvents.{node_runs, expired}
+use Rattle.user_nodes.specs.Turn.{Turn, unchanged, told}
 use Rattle.frame_lines.specs.Lines.{Flights, LineService, ArePut}
 use Rattle.net_events.specs.NodeEvents.{Expires, turn_of}
 use Rattle.net_events.specs.OneLine.{direction_of}

@@ -8,17 +8,17 @@ use Rattle.link_timers.specs.declared.role.Role.{Role}
 use Rattle.link_timers.specs.declared.role.Role.TheVariants.{Dte, Dce}
 use Rattle.packet_end.specs.declared.params.EndParams.{EndParams}
 use Rattle.record_laws.proofs.Books.Basics.{set_here, set_elsewhere, length_set, length_pushed, get_before, get_last}
-use Rattle.line_nodes.specs.Node.{frames_of}
+use Rattle.user_nodes.specs.Node.{frames_of}
 use Rattle.frame_lines.specs.declared.line.Direction.TheVariants.{FromDte, FromDce}
 use Rattle.frame_lines.specs.Lines.{Flights, no_flights, LineService, ArePut}
 use Rattle.net_events.specs.Network.{NetNode, User, Switching, NetLine}
 use Rattle.net_config.specs.NetPlan.{NewNode, NewSwitch, Planned, PlannedUser, PlannedSwitch, NewLine, NetPlan, IsEndPlan}
 use Rattle.net_config.specs.NetPlan.{IsKindOfLine, IsLinePlan, HasEndAt, IsPlan}
 use Rattle.net_events.specs.Opening.{new_at, new_end, placed_new}
-use Rattle.placed_nodes.specs.Making.{waiting, waiting_switch, begun_to, AreNew}
+use Rattle.net_node.specs.Making.{waiting, waiting_switch, begun_to, AreNew}
 use Rattle.net_events.proofs.Lists.{within}
-use Rattle.placed_nodes.proofs.NewNodes.{not_before, waits, has_begun}
-use Rattle.placed_nodes.proofs.Plans.{node_of_end}
+use Rattle.net_node.proofs.NewNodes.{not_before, waits, has_begun}
+use Rattle.net_node.proofs.Plans.{node_of_end}
 use Rattle.line_sim.specs.Making.{begun, begun_node, users_frames, frames_put, ArePutSoFar, LineHasBegun, HaveBegun}
 use Rattle.line_sim.specs.Making.{HasEnds, Begins}
 

@@ -11,7 +11,7 @@ use Rattle.link_timers.specs.declared.role.Role.TheVariants.{Dte, Dce}
 use Rattle.link_timers.specs.Role.{other_of}
 use Rattle.call_records.specs.Book.{address_of}
 use Rattle.call_records.specs.Register.{made_register}
-use Rattle.line_nodes.specs.Node.{NodeState, frames_of}
+use Rattle.user_nodes.specs.Node.{NodeState, frames_of}
 use Rattle.frame_lines.specs.declared.line.Direction.TheVariants.{FromDte, FromDce}
 use Rattle.frame_lines.specs.Lines.{Flights, no_flights, LineService, ArePut}
 use Rattle.switch_lines.specs.Lines.{SwitchLine, role_on}
@@ -24,11 +24,11 @@ use Rattle.net_config.specs.NetPlan.{NewNode, NewSwitch, Planned, PlannedUser, P
 use Rattle.net_config.specs.NetPlan.{IsKindOfLine, IsLinePlan, HasEndAt, IsSwitchPlan, IsPlan}
 use Rattle.net_events.specs.Opening.{NodeIsMade, LineIsMade, AreSent}
 use Rattle.net_events.specs.Opening.{new_at, end_of_two, placed_new, placed_switch, role_on_line, own_configs, line_plan}
-use Rattle.placed_nodes.specs.Making.{waiting_switch, AreNew}
+use Rattle.net_node.specs.Making.{waiting_switch, AreNew}
 use Rattle.net_events.proofs.Lists.{within, at_index}
-use Rattle.placed_nodes.proofs.NewNodes.{not_before, has_begun}
-use Rattle.placed_nodes.proofs.Plans.{never_both, same_new_switch, node_of_end, own_line_of, own_there, config_at, configs_count}
-use Rattle.net_turns.specs.Switching.{LinePut}
+use Rattle.net_node.proofs.NewNodes.{not_before, has_begun}
+use Rattle.net_node.proofs.Plans.{never_both, same_new_switch, node_of_end, own_line_of, own_there, config_at, configs_count}
+use Rattle.node_events.specs.Switching.{LinePut}
 use Rattle.line_sim.specs.Making.{frames_put, put_at, first_end, ArePutSoFar, LineHasBegun, HaveBegun, CanBegin}
 use Rattle.line_sim.specs.Making.{SwitchBegins, switch_to, HaveNodesBegun, IsMadeOf}
 use Rattle.line_sim.proofs.LinesBegin.{same_before, none_yet, now_put}

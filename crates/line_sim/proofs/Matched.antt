@@ -6,7 +6,7 @@ use Rattle.call_records.specs.Pairs.{AllMatch}
 use Rattle.frame_lines.specs.Lines.{LineService}
 use Rattle.net_events.specs.Network.{Network}
 use Rattle.network_laws.specs.Switched.IsSwitched.{IsAny}
-use Rattle.network_laws.specs.Switched.Promise.{NetworkPromise}
+use Rattle.network_laws.specs.Switched.InnerPromise.{NetworkPromise}
 use Rattle.network_laws.proofs.Switched.PromiseAny.{promise_any}
 
 at_place : (pairs : List PairValue) (k : ℕ) (d : PairValue) → k < length pairs → slice_get pairs k ≡ Some (get_or pairs k d)

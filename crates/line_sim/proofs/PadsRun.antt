@@ -8,12 +8,12 @@ use Rattle.link_timers.specs.declared.timers.TimerId.TheVariants.{Idle as idle_t
 use Rattle.lapb.specs.Machine.{Octets}
 use Rattle.x25_pad.specs.declared.config.PadConfig.{PadConfig}
 use Rattle.node_laws.specs.Pads.Happening.{PadEvent, HasExpiry}
-use Rattle.line_nodes.specs.Node.{NodeState}
-use Rattle.line_nodes.specs.declared.terminal.TerminalEvent.{TerminalEvent}
-use Rattle.line_nodes.specs.declared.terminal.TerminalEvent.TheVariants.{Key, Break, Idle, Print, Leaves, Arrives}
+use Rattle.user_nodes.specs.Node.{NodeState}
+use Rattle.user_nodes.specs.declared.terminal.TerminalEvent.{TerminalEvent}
+use Rattle.user_nodes.specs.declared.terminal.TerminalEvent.TheVariants.{Key, Break, Idle, Print, Leaves, Arrives}
 use Rattle.frame_lines.specs.declared.line.Direction.{Direction}
 use Rattle.frame_lines.specs.Lines.{flying, memory_service}
-use Rattle.placed_nodes.specs.Node.{terminals_of, terminals_there}
+use Rattle.net_node.specs.Node.{terminals_of, terminals_there}
 use Rattle.net_config.specs.declared.config.Config.{Config}
 use Rattle.net_events.specs.NodeEvents as node_event
 use Rattle.net_events.specs.Network.{NetNode, NetLine, Network, place_at}
@@ -25,7 +25,7 @@ use Rattle.net_nodes.specs.Places.{user_in, pad_terminals}
 use Rattle.net_nodes.specs.Faults.{step_fault, stands_at, where_there_is, at_terminal}
 use Rattle.net_nodes.specs.Steps.{hearer}
 use Rattle.network_laws.specs.Courses.{HasCourse, brought_by}
-use Rattle.network_laws.specs.Switched.Promise.{InnerPromise}
+use Rattle.network_laws.specs.Switched.InnerPromise.{InnerPromise}
 use Rattle.network_laws.proofs.Courses.{sent_course, typed_course}
 use Rattle.line_sim.specs.Runs.{IsMadeBy, IsHandled}
 use Rattle.line_sim.specs.Courses.{first_frame, brought_on, brought_to_end, unless_fault, brought, HaveNoEvent, CoursesLead, all_brought, had_in, had_at, given_in, given_to, PadHasRun, PadsHaveRun}

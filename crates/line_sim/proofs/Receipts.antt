@@ -11,14 +11,14 @@ use Rattle.record_laws.proofs.Books.Delivery.{delivery_whole}
 use Rattle.call_records.specs.Records.{RecordValue, PairValue}
 use Rattle.call_records.specs.Register.{Register}
 use Rattle.record_laws.specs.CallPaths.World.{Plan}
-use Rattle.record_laws.specs.CallPaths.Promise.{PathHolds}
+use Rattle.record_laws.specs.CallPaths.PathPromise.{PathHolds}
 use Rattle.frame_lines.specs.Lines.{LineService}
 use Rattle.net_events.specs.Network.{Network}
 use Rattle.net_nodes.specs.Questions.{net_confirmed}
 use Rattle.line_sim.specs.Receipts.{to_be_confirmed, HasTaken, AreInPair, IsTakenBeyond}
 use Rattle.line_sim.proofs.Resting.{delivered}
 use Rattle.network_laws.specs.Switched.IsSwitched.{IsAny}
-use Rattle.network_laws.specs.Switched.Promise.{NetworkPromise}
+use Rattle.network_laws.specs.Switched.InnerPromise.{NetworkPromise}
 use Rattle.network_laws.proofs.Switched.PromiseAny.{promise_any}
 
 -- ---- in a matching each sent epoch of which anything is confirmed is joined with one that has it

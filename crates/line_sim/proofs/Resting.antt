@@ -5,14 +5,14 @@ use Rattle.std.specs.Prelude.{◌&&◌, slice_get}
 use Rattle.std.specs.List.{list_all}
 use Rattle.std.proofs.lemmas.Option.{same_Some, none-some}
 use Rattle.packet_layer.specs.Layer.{confirmed}
-use Rattle.line_nodes.specs.Node.{NodeState, Pad, Host, end_of, node_confirmed}
+use Rattle.user_nodes.specs.Node.{NodeState, Pad, Host, end_of, node_confirmed}
 use Rattle.frame_lines.specs.Lines.{LineService}
 use Rattle.net_events.specs.Network.{NetNode, User, Switching, Network}
 use Rattle.net_nodes.specs.Places.{user_in}
 use Rattle.net_nodes.specs.Faults.{is_channel_at}
-use Rattle.placed_nodes.specs.Node.{rests}
+use Rattle.net_node.specs.Node.{rests}
 use Rattle.net_nodes.specs.Questions.{confirmed_at, net_confirmed, is_empty, net_rests}
-use Rattle.network_laws.specs.Switched.Rest.{MissesNothing, IsDelivered, AreAllAtRest}
+use Rattle.network_laws.specs.Switched.SwitchedRest.{MissesNothing, IsDelivered, AreAllAtRest}
 use Rattle.network_laws.specs.Switched.IsSwitched.{IsAny}
 use Rattle.network_laws.proofs.Switched.PromiseAny.{delivered_any}
 use Rattle.network_laws.proofs.Switched.RestAny.{rest_any}

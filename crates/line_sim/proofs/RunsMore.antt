@@ -3,14 +3,14 @@ use Rattle.std.proofs.Common.{◌≡◌, Bool, ℕ, zero, suc, ◌+◌, ◌<◌,
 use Rattle.std.specs.Prelude.{nat_lt, true, false, is_some, slice_get, if◌then◌else◌}
 use Rattle.std.specs.Bool.{OnTrue}
 use Rattle.std.proofs.lemmas.Option.{slice_get-get_or}
-use Rattle.line_nodes.specs.declared.fault.NodeFault.{NodeFault}
+use Rattle.user_nodes.specs.declared.fault.NodeFault.{NodeFault}
 use Rattle.frame_lines.specs.Lines.{LineService, memory_service}
 use Rattle.net_events.specs.NodeEvents.{Calls}
 use Rattle.net_events.specs.Network.{PlacedNode, Network}
 use Rattle.net_config.specs.declared.config.Config.{Config}
 use Rattle.net_events.specs.declared.answer.Answer.{Answer}
 use Rattle.net_events.specs.EventView.{request_event}
-use Rattle.net_turns.specs.Outcomes.{event_fault}
+use Rattle.node_events.specs.Outcomes.{event_fault}
 use Rattle.net_events.specs.declared.event.Event.{Event}
 use Rattle.net_events.specs.declared.event.Event.TheVariants.{AtTerminal, Call, Ask, Take, Deliver, Lose, Expire, Relink, GivesUp, Restart}
 use Rattle.net_events.specs.declared.event.StepFault.{StepFault}

@@ -12,8 +12,8 @@ use Rattle.record_laws.specs.Words.{HasTyped}
 use Rattle.node_laws.specs.Pads.Happening.{PadEvent, HasKey, HasBreak, HasIdleTime, HasPrinting, HasFrame, HasExpiry}
 use Rattle.node_laws.specs.Pads.Happening.{HasLeaving, HasArrival, HasTicks}
 use Rattle.node_laws.specs.Pads.Typed.{AreTyped}
-use Rattle.line_nodes.specs.declared.terminal.TerminalEvent.{TerminalEvent}
-use Rattle.line_nodes.specs.declared.terminal.TerminalEvent.TheVariants.{Key, Break, Idle, Print, Leaves, Arrives}
+use Rattle.user_nodes.specs.declared.terminal.TerminalEvent.{TerminalEvent}
+use Rattle.user_nodes.specs.declared.terminal.TerminalEvent.TheVariants.{Key, Break, Idle, Print, Leaves, Arrives}
 use Rattle.frame_lines.specs.declared.line.Direction.{Direction}
 use Rattle.frame_lines.specs.Lines.{flying, LineService, memory_service}
 use Rattle.net_config.specs.declared.config.Config.{Config}

@@ -1,7 +1,7 @@
 -- What is due comes to an end, and an expiry of a timer that does not run changes nothing.
 use Rattle.std.specs.Prelude.{◌≡◌, ◌≢◌, ◌<◌, ℕ, false, slice_get, Some, Result, Err}
 use Rattle.link_timers.specs.declared.timers.TimerId.{TimerId}
-use Rattle.line_nodes.specs.NodeEvents.{node_runs}
+use Rattle.user_nodes.specs.NodeEvents.{node_runs}
 use Rattle.frame_lines.specs.Lines.{LineService}
 use Rattle.net_events.specs.declared.answer.Answer.{Answer}
 use Rattle.net_events.specs.declared.event.Event.{Event}

@@ -7,7 +7,7 @@ use Rattle.link_timers.specs.Role.{other_of}
 use Rattle.link_timers.specs.declared.role.Role.{Role}
 use Rattle.link_timers.specs.declared.role.Role.TheVariants.{Dte, Dce}
 use Rattle.call_records.specs.Register.{made_register}
-use Rattle.line_nodes.specs.Node.{drained, frames_of}
+use Rattle.user_nodes.specs.Node.{drained, frames_of}
 use Rattle.frame_lines.specs.declared.line.Direction.{Direction}
 use Rattle.frame_lines.specs.declared.line.Direction.TheVariants.{FromDte, FromDce}
 use Rattle.frame_lines.specs.Lines.{Flights, no_flights, LineService, ArePut}
@@ -17,8 +17,8 @@ use Rattle.net_events.specs.OneLine.{direction_of}
 use Rattle.net_config.specs.NetPlan.{NewNode, NewSwitch, Planned, PlannedUser, PlannedSwitch, NewLine, NetPlan}
 use Rattle.net_events.specs.Opening.{IsMade}
 use Rattle.net_events.specs.Opening.{new_at, placed_new, placed_switch, line_plan}
-use Rattle.placed_nodes.specs.Making.{waiting_switch}
-use Rattle.net_turns.specs.Switching.{LinesPut}
+use Rattle.net_node.specs.Making.{waiting_switch}
+use Rattle.node_events.specs.Switching.{LinesPut}
 
 -- ---- what has been put on a line
 

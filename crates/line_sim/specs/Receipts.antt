@@ -6,7 +6,7 @@ use Rattle.epochs.specs.Confirmed.{Confirmed, Has, confirmed_from}
 use Rattle.call_records.specs.Records.{RecordValue, PairValue}
 use Rattle.record_laws.specs.Words.{all_taken_by}
 use Rattle.net_events.specs.Network.{NetLine, Network, place_at}
-use Rattle.network_laws.specs.Switched.Promise.{its_slot}
+use Rattle.network_laws.specs.Switched.InnerPromise.{its_slot}
 
 -- what was sent since the last reset, up to the end of the last packet with D = 1
 abbrev pub to_be_confirmed : SentEpoch → Confirmed

@@ -7,7 +7,7 @@ use Rattle.net_events.specs.declared.event.Event.{Event}
 use Rattle.net_events.specs.declared.event.StepFault.{StepFault}
 use Rattle.net_events.specs.Network.{Network}
 use Rattle.net_nodes.specs.Happening.{Happens}
-use Rattle.network_laws.specs.Switched.Promise.{PromisesCalls, InnerPromise}
+use Rattle.network_laws.specs.Switched.InnerPromise.{PromisesCalls, InnerPromise}
 use Rattle.line_sim.specs.Courses.{CoursesGoOn}
 use Rattle.line_sim.specs.Expiries.{FewerDue, IdleExpiry}
 

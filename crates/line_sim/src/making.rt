@@ -6,15 +6,15 @@ ghost use Rattle.net_events.specs.Opening.{IsMade};
 ghost use Rattle.net_config.specs.declared.fault.MakeFault.TheVariants as make_fault_is;
 ghost use Rattle.net_config.specs.Plan.{StandsAlone};
 ghost use Rattle.line_sim.specs.Making.{HaveBegun, HasEnds, PutsFirst, Begins, CanBegin, SwitchBegins, IsMadeOf};
-ghost use Rattle.placed_nodes.specs.Making.{AreNew};
+ghost use Rattle.net_node.specs.Making.{AreNew};
 
 use frame_lines::{Direction, Line};
 use line_end::MOST_FRAMES;
 use net_config::{MakeFault, NetPlan, NewLine};
 use net_events::Puts;
+use net_node::{Equipment, NetNode, new_nodes, new_register};
 use net_nodes::Nodes;
-use net_turns::{NetLine, put_frames, put_lines};
-use placed_nodes::{Equipment, NetNode, new_nodes, new_register};
+use node_events::{NetLine, put_frames, put_lines};
 use std::alloc::{AllocError, Global};
 
 /// Puts all frames that wait at a node with users on its line; those of a switch wait.

@@ -2,7 +2,7 @@
 ghost use Rattle.std.specs.Prelude.{◌≡◌, true, false, Err, IfOk, IfErr, IsOkUnless};
 ghost use Rattle.std.specs.Bool.{OnTrue, OnFalse};
 ghost use Rattle.frame_lines.specs.Lines.{memory_service};
-ghost use Rattle.network_laws.specs.Switched.Promise.{PromisesCalls, InnerPromise};
+ghost use Rattle.network_laws.specs.Switched.InnerPromise.{PromisesCalls, InnerPromise};
 ghost use Rattle.net_config.specs.declared.fault.MakeFault.TheVariants.{BadConfig, OutOfMemory};
 ghost use Rattle.net_config.specs.Served.{is_served};
 ghost use Rattle.net_nodes.specs.Faults.{step_fault, MayWant};

@@ -158,7 +158,7 @@ impl Timers {
         }
     }
 
-    // Each timer that runs has so many ticks less, not below 0.
+    /// Each timer that runs has so many ticks less, not below 0.
     fn elapse(&mut self, ticks: u16)
         ensures places { self.new ≡ after_ticks self.old ticks }
         ensures left { (id : TimerId) → left_of self.new id ≡ lowered ticks (left_of self.old id) }
@@ -195,7 +195,7 @@ pub(crate) fn lower_one(left: Option<u16>, ticks: u16) -> Option<u16>
     Some(left?.saturating_sub(ticks))
 }
 
-// The place of a timer, if there is its channel or terminal.
+/// The place of a timer, if there is its channel or terminal.
 fn place(id: TimerId) -> Option<usize>
     ensures { MatchOption result (place_of id ≡ places) (λ place. (place ≡ place_of id) × (place < places)) }
 {
@@ -234,7 +234,7 @@ fn terminal_place(terminal: u8) -> Option<usize>
     Some(FIRST_IDLE + usize::from(terminal))
 }
 
-// The timer at a place.
+/// The timer at a place.
 fn timer(place: usize) -> TimerId
     requires { place < places }
     ensures { result ≡ timer_at place }

@@ -6,8 +6,8 @@ use Rattle.link_timers.specs.declared.role.Role.{Role}
 use Rattle.link_timers.specs.declared.role.Role.TheVariants.{Dte, Dce}
 use Rattle.link_timers.specs.declared.timers.TimerId.{TimerId}
 use Rattle.call_records.specs.Register.{Register, book_at, with_book}
-use Rattle.line_nodes.specs.Node.{NodeState, frames_of}
-use Rattle.line_nodes.specs.Notes.{NodeNotes, user_notes}
+use Rattle.user_nodes.specs.Node.{NodeState, frames_of}
+use Rattle.user_nodes.specs.Notes.{NodeNotes, user_notes}
 use Rattle.frame_lines.specs.declared.line.Direction.{Direction}
 use Rattle.frame_lines.specs.Lines.{LineService, ArePut}
 use Rattle.net_events.specs.OneLine.{direction_of}
@@ -24,7 +24,7 @@ use Rattle.net_events.specs.declared.event.Event.{Event}
 use Rattle.net_events.specs.declared.event.Event.TheVariants.{AtTerminal, Call, Ask, Take, Deliver, Lose, Expire}
 use Rattle.net_events.specs.declared.event.Event.TheVariants.{Relink, GivesUp, Restart}
 use Rattle.net_events.specs.declared.event.StepFault.{StepFault}
-use Rattle.net_turns.specs.Sends.{ArePutsOf}
+use Rattle.node_events.specs.Sends.{ArePutsOf}
 use Rattle.net_nodes.specs.Faults.{step_fault, IsLeftToNode}
 use Rattle.net_nodes.specs.Turns.{AtEnd}
 use Rattle.net_nodes.specs.Steps.{AtNode, AtSwitch, OnOwnLine, AtSwitchEnd, LoseStep, DeliverStep, ExpireStep, RelinkStep}

@@ -7,10 +7,10 @@ use Rattle.data_transfer.specs.Traffic.{Taken}
 use Rattle.packet_layer.specs.Layer.{front_on}
 use Rattle.packet_end.specs.PacketEnd.{PacketEnd}
 use Rattle.call_records.specs.Book.{Book}
-use Rattle.line_nodes.specs.Node.{NodeState, Pad, Host, end_of}
-use Rattle.line_nodes.specs.NodeEvents.{heard, node_runs, expired, relinked}
-use Rattle.line_nodes.specs.Turn.{unchanged, told}
-use Rattle.line_nodes.specs.HostTurns.{taken_turn}
+use Rattle.user_nodes.specs.Node.{NodeState, Pad, Host, end_of}
+use Rattle.user_nodes.specs.NodeEvents.{heard, node_runs, expired, relinked}
+use Rattle.user_nodes.specs.Turn.{unchanged, told}
+use Rattle.user_nodes.specs.HostTurns.{taken_turn}
 use Rattle.net_events.specs.NodeEvents.{NodeEvent, Hears, Expires, Relinks, Restarts, Calls, Asks, Refuses, Says}
 use Rattle.net_events.specs.NodeEvents.{Takes, AtTerminal, turn_of}
 use Rattle.live_laws.specs.Writing.{AreAlike}

@@ -6,7 +6,7 @@ use Rattle.net_events.specs.Network.{Network, all_elapsed}
 use Rattle.net_events.specs.declared.answer.Answer.{Answer}
 use Rattle.net_events.specs.declared.event.Event.{Event}
 use Rattle.net_events.specs.declared.event.StepFault.{StepFault}
-use Rattle.network_laws.specs.Switched.Promise.{NetworkPromise}
+use Rattle.network_laws.specs.Switched.InnerPromise.{NetworkPromise}
 use Rattle.line_sim.specs.Between.{IsBetweenEvents}
 use Rattle.line_sim.specs.Stepping.{HasStepped}
 use Rattle.live_laws.specs.Registers.{on}

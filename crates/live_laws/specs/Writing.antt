@@ -3,8 +3,8 @@ use Rattle.std.specs.Prelude.{◌≡◌, length, Result}
 use Rattle.link_timers.specs.declared.role.Role.{Role}
 use Rattle.call_records.specs.Book.{Book}
 use Rattle.call_records.specs.Register.{Register}
-use Rattle.line_nodes.specs.Node.{NodeState}
-use Rattle.line_nodes.specs.Turn.{Turn}
+use Rattle.user_nodes.specs.Node.{NodeState}
+use Rattle.user_nodes.specs.Turn.{Turn}
 use Rattle.frame_lines.specs.Lines.{LineService}
 use Rattle.net_events.specs.NodeEvents.{NodeEvent, turn_of}
 use Rattle.net_events.specs.Network.{Network}

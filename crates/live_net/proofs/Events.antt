@@ -11,7 +11,7 @@ use Rattle.net_events.specs.Network.{Network}
 use Rattle.net_nodes.specs.Faults.{step_fault}
 use Rattle.net_nodes.specs.Happening.{Happens, IsRefusedSo}
 use Rattle.line_sim.proofs.Refusals.{refusals}
-use Rattle.net_turns.specs.AnswerRoom.{IsWithinLimits, IsRoomy}
+use Rattle.node_events.specs.AnswerRoom.{IsWithinLimits, IsRoomy}
 use Rattle.live_laws.specs.Registers.{bare}
 use Rattle.live_laws.specs.Living.{IsLive, HasLived}
 use Rattle.live_laws.proofs.Lives.{lived, lives_on}

@@ -4,7 +4,7 @@ use Rattle.call_records.specs.Register.{Register, HasNoRecords}
 use Rattle.frame_lines.specs.Lines.{LineService}
 use Rattle.net_config.specs.declared.config.Config.{Config}
 use Rattle.net_events.specs.Network.{Network}
-use Rattle.network_laws.specs.Switched.Promise.{NetworkPromise}
+use Rattle.network_laws.specs.Switched.InnerPromise.{NetworkPromise}
 use Rattle.network_laws.proofs.Switched.PromiseAny.{promise_any}
 use Rattle.line_sim.specs.Between.{IsBetweenEvents}
 use Rattle.line_sim.specs.Courses.{HaveNoEvent}

@@ -20,7 +20,7 @@ use Rattle.net_nodes.specs.Faults.{step_fault}
 use Rattle.net_nodes.specs.Happening.{Happens, IsRefusedSo}
 use Rattle.network_laws.proofs.Switched.UsersAny.{loss_any}
 use Rattle.line_sim.proofs.Events.{made, happens}
-use Rattle.net_turns.specs.AnswerRoom.{IsWithinLimits, IsRoomy}
+use Rattle.node_events.specs.AnswerRoom.{IsWithinLimits, IsRoomy}
 use Rattle.line_sim.proofs.Refusals.{refusals}
 use Rattle.line_sim.proofs.Registered.{lost_registered}
 use Rattle.line_sim.proofs.Stepped.{stepped}

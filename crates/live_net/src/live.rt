@@ -11,12 +11,12 @@ ghost use Rattle.net_nodes.specs.Faults.{step_fault};
 ghost use Rattle.net_nodes.specs.Happening.{IsRefusedSo, FindsNoFrame, FindNoFrames};
 ghost use Rattle.net_nodes.specs.Questions.{net_confirmed, net_shows, net_has_to_take, net_room_to_say, net_rests};
 ghost use Rattle.net_nodes.specs.Questions.{MaySay, PrintsNothing};
-ghost use Rattle.network_laws.specs.Switched.Promise.{NetworkPromise};
-ghost use Rattle.network_laws.specs.Switched.Rest.{MissesNothing, IsDelivered};
+ghost use Rattle.network_laws.specs.Switched.InnerPromise.{NetworkPromise};
+ghost use Rattle.network_laws.specs.Switched.SwitchedRest.{MissesNothing, IsDelivered};
 ghost use Rattle.line_sim.specs.Between.{IsBetweenEvents};
 ghost use Rattle.line_sim.specs.Courses.{HaveNoEvent, CoursesPass};
 ghost use Rattle.line_sim.specs.Receipts.{IsTakenBeyond};
-ghost use Rattle.net_turns.specs.AnswerRoom.{IsWithinLimits};
+ghost use Rattle.node_events.specs.AnswerRoom.{IsWithinLimits};
 ghost use Rattle.line_sim.specs.Runs.{IsMadeBy};
 ghost use Rattle.live_laws.specs.Registers.{on};
 ghost use Rattle.live_net.specs.Making.{register_made};
@@ -51,7 +51,7 @@ impl<L: Line> Model for LiveNet<L> {
 
     ghost coded = { Prim.hlevel (codes, map.code {R = by_digits} (coded_list coded_ℕ) coded_ℕ) };
 
-    ghost use Rattle.net_turns.specs.AnswerRoom.{IsRoomy};
+    ghost use Rattle.node_events.specs.AnswerRoom.{IsRoomy};
     ghost use Rattle.live_laws.specs.Living.{IsLive};
 
     ghost view = { λ n. n.nodes };

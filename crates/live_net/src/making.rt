@@ -2,17 +2,17 @@
 ghost use Rattle.std.specs.Prelude.{◌≡◌, true, false, Err, IsOkUnless, IfOk, vec_len};
 ghost use Rattle.net_config.specs.declared.fault.MakeFault.TheVariants as make_fault_is;
 ghost use Rattle.net_config.specs.Served.{is_served};
-ghost use Rattle.net_turns.specs.AnswerRoom.{IsRoomy};
+ghost use Rattle.node_events.specs.AnswerRoom.{IsRoomy};
 ghost use Rattle.live_net.specs.Making.{IsMadeBare};
 
 use frame_lines::Line;
-use line_nodes::MOST_NOTES;
 use line_sim::Net;
 use net_config::{Config, MakeFault};
 use net_events::{Answer, Outcome, Puts};
 use net_nodes::Nodes;
-use net_turns::MOST_PUTS;
+use node_events::MOST_PUTS;
 use std::alloc::{AllocError, Global};
+use user_nodes::MOST_NOTES;
 use x25_pad::MOST_TEXT;
 
 /// The nodes and lines of a network as it is made, without its records.

@@ -12,7 +12,7 @@ ghost use Rattle.net_nodes.specs.Faults.{step_fault};
 ghost use Rattle.net_nodes.specs.Happening.{IsRefusedSo, FindsNoFrame, FindNoFrames};
 ghost use Rattle.net_nodes.specs.Questions.{net_confirmed, net_shows, net_has_to_take, net_room_to_say, net_rests};
 ghost use Rattle.net_nodes.specs.Questions.{MaySay, PrintsNothing};
-ghost use Rattle.net_turns.specs.AnswerRoom.{IsWithinLimits};
+ghost use Rattle.node_events.specs.AnswerRoom.{IsWithinLimits};
 ghost use Rattle.line_sim.specs.Runs.{IsMadeBy};
 ghost use Rattle.live_laws.specs.Registers.{on};
 ghost use Rattle.live_net.specs.Making.{register_made};
@@ -50,7 +50,7 @@ impl<L: Line> Model for LivePart<L> {
     ghost coded = { Prim.hlevel (codes, map.code {R = by_digits} (coded_list coded_ℕ) coded_ℕ) };
 
     ghost use Rattle.net_nodes.specs.Carrying.{blind};
-    ghost use Rattle.net_turns.specs.AnswerRoom.{IsRoomy};
+    ghost use Rattle.node_events.specs.AnswerRoom.{IsRoomy};
     ghost use Rattle.live_laws.specs.Living.{IsLive};
 
     ghost view = { λ n. n.nodes };

@@ -3,7 +3,7 @@ use Rattle.std.specs.Prelude.{◌≡◌, ◌≢◌, ℕ, ◌<◌, List, [], ◌�
 use Rattle.link_timers.specs.declared.role.Role.{Role}
 use Rattle.link_timers.specs.declared.timers.TimerId.{TimerId}
 use Rattle.call_records.specs.Register.{Register, ChannelEnd, handed_on}
-use Rattle.line_nodes.specs.Node.{sent_out}
+use Rattle.user_nodes.specs.Node.{sent_out}
 use Rattle.link_timers.specs.Role.{other_of}
 use Rattle.frame_lines.specs.Lines.{Flights, no_flights, flying, without_first, LineService, ArePut}
 use Rattle.switch_lines.specs.Lines.{SwitchLine}

@@ -4,8 +4,8 @@ use Rattle.std.specs.Prelude.{◌≡◌, ℕ, ◌⊎◌, List, map, set, length,
 use Rattle.link_timers.specs.declared.role.Role.{Role}
 use Rattle.link_timers.specs.declared.role.Role.TheVariants.{Dte, Dce}
 use Rattle.call_records.specs.Register.{Register, book_at, with_book}
-use Rattle.line_nodes.specs.Node.{NodeState, drained, frames_of, node_elapsed}
-use Rattle.line_nodes.specs.Turn.{Turn}
+use Rattle.user_nodes.specs.Node.{NodeState, drained, frames_of, node_elapsed}
+use Rattle.user_nodes.specs.Turn.{Turn}
 use Rattle.frame_lines.specs.declared.line.Direction.{Direction}
 use Rattle.frame_lines.specs.Lines.{Flights, without_first, LineService, ArePut}
 use Rattle.switch_lines.specs.Lines.{role_on}

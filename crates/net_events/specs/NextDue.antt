@@ -2,7 +2,7 @@
 use Rattle.std.specs.Prelude.{ℕ, suc, List, [], ◌∷◌, Option, Some, None}
 use Rattle.link_timers.specs.declared.timers.TimerId.{TimerId}
 use Rattle.packet_end.specs.PacketEnd.{due}
-use Rattle.line_nodes.specs.Node.{node_due}
+use Rattle.user_nodes.specs.Node.{node_due}
 use Rattle.switch_lines.specs.Lines.{SwitchLine}
 use Rattle.net_events.specs.Network.{NetNode, User, Switching, Network}
 

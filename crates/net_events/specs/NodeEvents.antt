@@ -7,12 +7,12 @@ use Rattle.packet_channel.specs.Channel.{Request}
 use Rattle.packet_host.specs.Host.{call_parts}
 use Rattle.frame_lines.specs.Lines.{Flights, no_flights, flying, without_first, LineService, ArePut}
 use Rattle.call_records.specs.Book.{Book}
-use Rattle.line_nodes.specs.Node.{NodeState, end_of, is_pad, frames_of}
-use Rattle.line_nodes.specs.Turn.{Turn}
-use Rattle.line_nodes.specs.HostTurns.{host_calls, host_asks, host_refuses, host_says, host_takes}
-use Rattle.line_nodes.specs.Terminals.{HasTerminal, at_terminal}
-use Rattle.line_nodes.specs.LineTurns.{hears, expires, relinks, restarts}
-use Rattle.line_nodes.specs.declared.terminal.TerminalEvent.{TerminalEvent}
+use Rattle.user_nodes.specs.Node.{NodeState, end_of, is_pad, frames_of}
+use Rattle.user_nodes.specs.Turn.{Turn}
+use Rattle.user_nodes.specs.HostTurns.{host_calls, host_asks, host_refuses, host_says, host_takes}
+use Rattle.user_nodes.specs.Terminals.{HasTerminal, at_terminal}
+use Rattle.user_nodes.specs.LineTurns.{hears, expires, relinks, restarts}
+use Rattle.user_nodes.specs.declared.terminal.TerminalEvent.{TerminalEvent}
 use Rattle.net_events.specs.OneLine.{LineState, node_at, with_turn, direction_of, direction_to}
 
 -- a frame arrives, a timer expires, the link is given up, or the node restarts; the user of a host calls an address,

@@ -6,8 +6,8 @@ use Rattle.frame_lines.specs.declared.line.Direction.{Direction}
 use Rattle.frame_lines.specs.declared.line.Direction.TheVariants.{FromDte, FromDce}
 use Rattle.frame_lines.specs.Lines.{Flights}
 use Rattle.call_records.specs.Book.{Book}
-use Rattle.line_nodes.specs.Node.{NodeState, drained}
-use Rattle.line_nodes.specs.Turn.{Turn}
+use Rattle.user_nodes.specs.Node.{NodeState, drained}
+use Rattle.user_nodes.specs.Turn.{Turn}
 
 -- the places of the two nodes in the network, the nodes, the frames in flight and the book
 pub record LineState : Type 0 where

@@ -9,7 +9,7 @@ use Rattle.call_records.specs.Book.{address_of}
 use Rattle.call_records.specs.Register.{LinePlan, made_register}
 use Rattle.packet_host.specs.Making as host
 use Rattle.x25_pad.specs.Making as pad
-use Rattle.line_nodes.specs.Node.{NodeState, Pad, Host, frames_of, drained}
+use Rattle.user_nodes.specs.Node.{NodeState, Pad, Host, frames_of, drained}
 use Rattle.frame_lines.specs.Lines.{Flights, no_flights, LineService, ArePut}
 use Rattle.switch_lines.specs.Making.{made}
 use Rattle.joined_line.specs.declared.config.SwitchLineConfig.{SwitchLineConfig}

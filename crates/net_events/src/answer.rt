@@ -2,8 +2,8 @@
 use crate::puts::Puts;
 use frame_codec::FrameBuf;
 use frame_lines::Direction;
-use line_nodes::UserNote;
 use packet_layer::Front;
+use user_nodes::UserNote;
 use x25_pad::PadAnswer;
 
 /// What an event gave, besides frames, notes and text.

@@ -1,12 +1,12 @@
 //! The events of a network, and why they are refused.
 use arrayvec::ArrayVec;
 use frame_lines::Direction;
-use line_nodes::{NodeFault, TerminalEvent};
 use link_timers::TimerId;
 use packet_codec::Address;
 use packet_host::HostRequest;
 use std::alloc::AllocError;
 use thiserror::Error;
+use user_nodes::{NodeFault, TerminalEvent};
 
 /// An event, which is handled whole before the next one. Nodes and lines go by their place in the network's
 /// configuration, counted from 0.

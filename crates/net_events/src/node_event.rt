@@ -1,8 +1,8 @@
 //! What may happen at a node with users.
-use line_nodes::TerminalEvent;
 use link_timers::TimerId;
 use packet_codec::Address;
 use packet_host::HostRequest;
+use user_nodes::TerminalEvent;
 
 /// What comes to a node at its line.
 #[derive(Clone, Copy)]

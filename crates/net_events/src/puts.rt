@@ -65,7 +65,7 @@ impl Puts {
         Ok(())
     }
 
-    // Makes places up to so many, in a list that moves once at most.
+    /// Makes places up to so many, in a list that moves once at most.
     #[inline(never)]
     fn grow(&mut self, frames: usize) -> Result<(), AllocError>
         requires { self.old.room < frames }

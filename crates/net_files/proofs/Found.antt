@@ -7,8 +7,8 @@ use Rattle.link_timers.specs.declared.timers.TimerId.{TimerId}
 use Rattle.packet_codec.specs.Address.{address_of}
 use Rattle.packet_codec.specs.declared.address.AddressFault.{AddressFault}
 use Rattle.frame_lines.specs.declared.line.Direction.{Direction}
-use Rattle.line_nodes.specs.declared.terminal.TerminalEvent.{TerminalEvent}
-use Rattle.line_nodes.specs.declared.terminal.TerminalEvent.TheVariants.{Key}
+use Rattle.user_nodes.specs.declared.terminal.TerminalEvent.{TerminalEvent}
+use Rattle.user_nodes.specs.declared.terminal.TerminalEvent.TheVariants.{Key}
 use Rattle.net_files.specs.declared.keywords.CommandWord.{CommandWord}
 use Rattle.net_files.specs.declared.keywords.CommandWord.TheVariants as command_is
 use Rattle.net_files.specs.declared.keywords.EventWord.{EventWord}

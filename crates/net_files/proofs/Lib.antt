@@ -8,4 +8,5 @@ pub mod TableKeys
 pub mod Tables
 pub mod Pairs
 pub mod Documents
+pub mod FirstNames
 pub mod Kept

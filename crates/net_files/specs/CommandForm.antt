@@ -6,8 +6,8 @@ use Rattle.link_timers.specs.declared.timers.TimerId.TheVariants as timer
 use Rattle.packet_codec.specs.Address.{address_of}
 use Rattle.frame_lines.specs.declared.line.Direction.{Direction}
 use Rattle.frame_lines.specs.declared.line.Direction.TheVariants.{FromDte, FromDce}
-use Rattle.line_nodes.specs.declared.terminal.TerminalEvent.{TerminalEvent}
-use Rattle.line_nodes.specs.declared.terminal.TerminalEvent.TheVariants as terminal_is
+use Rattle.user_nodes.specs.declared.terminal.TerminalEvent.{TerminalEvent}
+use Rattle.user_nodes.specs.declared.terminal.TerminalEvent.TheVariants as terminal_is
 use Rattle.net_files.specs.Texts.{TextForm}
 use Rattle.net_files.specs.Words.{◌␣◌, IsNumber, IsNode}
 use Rattle.net_files.specs.Values.{RequestValue, EventValue, CommandValue}

@@ -2,8 +2,8 @@
 use Rattle.std.specs.Prelude.{◌≡◌, ℕ, Bool, List, [], ◌∷◌, length, take, drop, map}
 use Rattle.std.specs.List.{flat_map}
 use Rattle.net_events.specs.declared.event.Event.{Event as NetEvent}
-use Rattle.net_files.specs.declared.commands.Command.{Command}
-use Rattle.net_files.specs.declared.commands.Command.TheVariants as command
+use Rattle.net_files.specs.declared.commands.ScriptCommand.{ScriptCommand}
+use Rattle.net_files.specs.declared.commands.ScriptCommand.TheVariants as command
 use Rattle.net_files.specs.declared.commands.Entry.{Entry}
 use Rattle.net_files.specs.declared.commands.Entry.TheVariants as entry
 
@@ -17,7 +17,7 @@ pub data CommandView : Type 0 where
   Trace : (traces : Bool) → CommandView
   Check : CommandView
 
-abbrev pub view_of : Command → CommandView
+abbrev pub view_of : ScriptCommand → CommandView
 view_of (command.Keys keys) = Keys keys.node keys.terminal keys.octets.now
 view_of (command.Event e) = Event e.now
 view_of command.Flow = Flow

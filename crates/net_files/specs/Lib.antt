@@ -12,3 +12,4 @@ pub mod Scripts
 pub mod Entries
 pub mod Networks
 pub mod DocumentAnswers
+pub mod NamesView

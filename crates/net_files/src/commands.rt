@@ -20,7 +20,7 @@ pub struct Keys<'a> {
 
 /// What a line of a script asks for.
 #[derive(Drop)]
-pub enum Command<'a> {
+pub enum ScriptCommand<'a> {
     /// These keys are typed.
     Keys(Keys<'a>),
     /// This event happens.
@@ -192,7 +192,7 @@ impl<'a> Model for CommandsIter<'a> {
 }
 
 impl<'a> Iterator for CommandsIter<'a> {
-    type Item = Command<'a>;
+    type Item = ScriptCommand<'a>;
 
     ghost use Rattle.std.specs.Iterator.{YieldsFirstBy, item_count};
     ghost use Rattle.net_files.specs.Commands.{view_of};
@@ -201,7 +201,7 @@ impl<'a> Iterator for CommandsIter<'a> {
 
     ghost remaining = { item_count (λ commands. commands) };
 
-    fn next(&mut self) -> Option<Command<'a>> {
+    fn next(&mut self) -> Option<ScriptCommand<'a>> {
         let (entry, entries) = self.entries.split_first()?;
         let command = match *entry {
             Entry::Keys {
@@ -211,7 +211,7 @@ impl<'a> Iterator for CommandsIter<'a> {
             } => {
                 let (octets, others) = self.octets.split_at(count);
                 self.octets = others;
-                Command::Keys(Keys {
+                ScriptCommand::Keys(Keys {
                     node,
                     terminal,
                     octets,
@@ -220,12 +220,12 @@ impl<'a> Iterator for CommandsIter<'a> {
             Entry::Event => {
                 let (event, others) = self.events.split_first()?;
                 self.events = others;
-                Command::Event(event)
+                ScriptCommand::Event(event)
             }
-            Entry::Flow => Command::Flow,
-            Entry::Tick(ticks) => Command::Tick(ticks),
-            Entry::Trace(traces) => Command::Trace(traces),
-            Entry::Check => Command::Check,
+            Entry::Flow => ScriptCommand::Flow,
+            Entry::Tick(ticks) => ScriptCommand::Tick(ticks),
+            Entry::Trace(traces) => ScriptCommand::Trace(traces),
+            Entry::Check => ScriptCommand::Check,
         };
         self.entries = entries;
         Some(command)

@@ -1,5 +1,5 @@
 //! Scripts: a text of one command a line, read for a network.
-ghost use Rattle.std.specs.Prelude.{IfOk, IfErr, map, option_map, string_bytes};
+ghost use Rattle.std.specs.Prelude.{IfOk, IfErr, map, option_map};
 ghost use Rattle.net_files.specs.Values.{request_value, event_value, command_value};
 ghost use Rattle.net_files.specs.Values.{EventValue as event};
 ghost use Rattle.net_files.specs.Reading.{keys_of, at_terminal_of, call_of, take_of, directed_of, timer_of, expiry_of};
@@ -7,7 +7,7 @@ ghost use Rattle.net_files.specs.Reading.{switch_of, say_of, request_of, ask_of,
 ghost use Rattle.net_files.specs.Reading.{added, added_one, command_from};
 ghost use Rattle.net_files.specs.Words.{next_word, named, number_at, node_at, last};
 ghost use Rattle.net_files.specs.Answers.{Gives, GivesOrWants, left_of};
-ghost use Rattle.net_files.specs.Scripts.{AreNamesOf, AreRead, IsScript, IsScriptFault, lines_of};
+ghost use Rattle.net_files.specs.Scripts.{AreRead, IsScript, IsScriptFault, lines_of};
 
 use crate::commands::Commands;
 use crate::fault::ProgFault;
@@ -15,15 +15,16 @@ use crate::keywords::{
     CommandWord, EventWord, RequestWord, direction_of, flags_of, lone_timer, numbered_timer,
     switch_of,
 };
+use crate::names::Names;
 use crate::words::{LineFault, Words, cut, read_text};
 use arrayvec::ArrayVec;
 use frame_lines::Direction;
-use line_nodes::TerminalEvent;
 use link_timers::TimerId;
 use net_config::Config;
 use net_events::Event;
 use packet_host::HostRequest;
-use std::alloc::{AllocError, Global};
+use std::alloc::Global;
+use user_nodes::TerminalEvent;
 
 /// A script, read for a network: the names of the network's nodes, how many lines it has, and the commands.
 #[derive(Drop)]
@@ -49,29 +50,18 @@ pub fn read_script(alloc: Global, text: &[u8], config: &Config) -> Result<Script
     ensures script { IfOk result (IsScript config.now text.now) }
     ensures fault { IfErr result (IsScriptFault config.now text.now) }
 {
-    let names = names_of(alloc, config)?;
-    let commands = read_lines(alloc, text, names.as_slice())?;
+    let names = Names::of(alloc, config)?;
+    let commands = read_lines(alloc, text, &names)?;
     Ok(Script {
-        names,
+        names: names.into_list(),
         lines: config.lines.len(),
         commands,
     })
 }
 
-/// The names of a network's nodes.
-fn names_of(alloc: Global, config: &Config) -> Result<Vec<String>, AllocError>
-    ensures { IfOk result (λ names. AreNamesOf config.now.nodes.items names.items) }
-{
-    let mut names = Vec::new(alloc);
-    for node in &config.nodes {
-        names.push(node.name.clone()?)?;
-    }
-    Ok(names)
-}
-
 /// The commands of the lines of a text.
-fn read_lines(alloc: Global, text: &[u8], names: &[String]) -> Result<Commands, ProgFault>
-    ensures { AreRead (map string_bytes names.now) (lines_of text.now) result }
+fn read_lines(alloc: Global, text: &[u8], names: &Names<'_>) -> Result<Commands, ProgFault>
+    ensures { AreRead names.now (lines_of text.now) result }
 {
     let mut commands = Commands::new(alloc);
     let mut rest = Some(text);
@@ -93,11 +83,11 @@ fn read_lines(alloc: Global, text: &[u8], names: &[String]) -> Result<Commands, 
 fn add_command(
     alloc: Global,
     line: &[u8],
-    names: &[String],
+    names: &Names<'_>,
     commands: &mut Commands,
 ) -> Result<(), LineFault>
     ensures { GivesOrWants (λ _. map command_value commands.new) result
-        (added (map command_value commands.old) (commands_of (map string_bytes names.now) line.now)) }
+        (added (map command_value commands.old) (commands_of names.now line.now)) }
 {
     if line.is_empty() {
         return Ok(());
@@ -109,11 +99,11 @@ fn add_command(
 fn add_line(
     alloc: Global,
     line: &[u8],
-    names: &[String],
+    names: &Names<'_>,
     commands: &mut Commands,
 ) -> Result<(), LineFault>
     ensures { GivesOrWants (λ _. map command_value commands.new) result
-        (added_one (map command_value commands.old) (command_of (map string_bytes names.now) line.now)) }
+        (added_one (map command_value commands.old) (command_of names.now line.now)) }
 {
     let mut words = Words::new(line);
     let word = words.command_word()?;
@@ -125,12 +115,12 @@ fn add_from(
     alloc: Global,
     word: CommandWord,
     words: Words<'_>,
-    names: &[String],
+    names: &Names<'_>,
     commands: &mut Commands,
 ) -> Result<(), LineFault>
     ensures { GivesOrWants (λ _. map command_value commands.new) result
         (added_one (map command_value commands.old)
-        (command_from (map string_bytes names.now) word (left_of words.entry))) }
+        (command_from names.now word (left_of words.entry))) }
 {
     match word {
         CommandWord::Key => add_keys(words, names, commands),
@@ -158,9 +148,9 @@ fn add_from(
 }
 
 /// `key NODE TERM TEXT`: a key for each octet of the text.
-fn add_keys(words: Words<'_>, names: &[String], commands: &mut Commands) -> Result<(), LineFault>
+fn add_keys(words: Words<'_>, names: &Names<'_>, commands: &mut Commands) -> Result<(), LineFault>
     ensures { GivesOrWants (λ _. map command_value commands.new) result
-        (added_one (map command_value commands.old) (keys_of (map string_bytes names.now) (left_of words.entry))) }
+        (added_one (map command_value commands.old) (keys_of names.now (left_of words.entry))) }
 {
     let mut words = words;
     let node = words.node(names)?;
@@ -196,9 +186,9 @@ fn read_event(
     alloc: Global,
     word: EventWord,
     words: Words<'_>,
-    names: &[String],
+    names: &Names<'_>,
 ) -> Result<Event, LineFault>
-    ensures { GivesOrWants event_value result (event_of (map string_bytes names.now) word (left_of words.entry)) }
+    ensures { GivesOrWants event_value result (event_of names.now word (left_of words.entry)) }
 {
     match word {
         EventWord::Break => read_at_terminal(words, names, TerminalEvent::Break),
@@ -224,10 +214,10 @@ fn read_event(
 /// `NODE TERM`, and what happens there.
 fn read_at_terminal(
     words: Words<'_>,
-    names: &[String],
+    names: &Names<'_>,
     event: TerminalEvent,
 ) -> Result<Event, LineFault>
-    ensures { Gives event_value result (at_terminal_of (map string_bytes names.now) event (left_of words.entry)) }
+    ensures { Gives event_value result (at_terminal_of names.now event (left_of words.entry)) }
 {
     let mut words = words;
     let node = words.node(names)?;
@@ -241,8 +231,8 @@ fn read_at_terminal(
 }
 
 /// `call NODE ADDRESS TEXT`, where the text is the user data.
-fn read_call(alloc: Global, words: Words<'_>, names: &[String]) -> Result<Event, LineFault>
-    ensures { GivesOrWants event_value result (call_of (map string_bytes names.now) (left_of words.entry)) }
+fn read_call(alloc: Global, words: Words<'_>, names: &Names<'_>) -> Result<Event, LineFault>
+    ensures { GivesOrWants event_value result (call_of names.now (left_of words.entry)) }
 {
     let mut words = words;
     let node = words.node(names)?;
@@ -259,8 +249,8 @@ fn read_call(alloc: Global, words: Words<'_>, names: &[String]) -> Result<Event,
 }
 
 /// `take NODE CH`.
-fn read_take(words: Words<'_>, names: &[String]) -> Result<Event, LineFault>
-    ensures { Gives event_value result (take_of (map string_bytes names.now) (left_of words.entry)) }
+fn read_take(words: Words<'_>, names: &Names<'_>) -> Result<Event, LineFault>
+    ensures { Gives event_value result (take_of names.now (left_of words.entry)) }
 {
     let mut words = words;
     let node = words.node(names)?;
@@ -284,8 +274,8 @@ fn read_direction(words: Words<'_>) -> Result<(usize, Direction), LineFault>
 }
 
 /// `expire NODE LINE`, and a timer.
-fn read_expiry(words: Words<'_>, names: &[String]) -> Result<Event, LineFault>
-    ensures { Gives event_value result (expiry_of (map string_bytes names.now) (left_of words.entry)) }
+fn read_expiry(words: Words<'_>, names: &Names<'_>) -> Result<Event, LineFault>
+    ensures { Gives event_value result (expiry_of names.now (left_of words.entry)) }
 {
     let mut words = words;
     let node = words.node(names)?;
@@ -320,9 +310,9 @@ fn read_relink(words: Words<'_>) -> Result<Event, LineFault>
 }
 
 /// `restart NODE`.
-fn read_restart(words: Words<'_>, names: &[String]) -> Result<Event, LineFault>
+fn read_restart(words: Words<'_>, names: &Names<'_>) -> Result<Event, LineFault>
     ensures { Gives event_value result
-        (option_map event.Restart (last (node_at (map string_bytes names.now) (left_of words.entry)))) }
+        (option_map event.Restart (last (node_at names.now (left_of words.entry)))) }
 {
     let mut words = words;
     let node = words.node(names)?;
@@ -335,9 +325,9 @@ fn read_ask(
     alloc: Global,
     word: RequestWord,
     words: Words<'_>,
-    names: &[String],
+    names: &Names<'_>,
 ) -> Result<Event, LineFault>
-    ensures { GivesOrWants event_value result (ask_of (map string_bytes names.now) word (left_of words.entry)) }
+    ensures { GivesOrWants event_value result (ask_of names.now word (left_of words.entry)) }
 {
     let mut words = words;
     let node = words.node(names)?;

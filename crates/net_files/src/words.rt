@@ -1,7 +1,7 @@
 //! The words of a line of a script.
-ghost use Rattle.std.specs.Prelude.{◌≡◌, ◌<◌, ◌≤◌, ◌==◌, ℕ, List, [], ◌∷◌, ◌++◌, Some, length, map};
+ghost use Rattle.std.specs.Prelude.{◌≡◌, ◌<◌, ◌≤◌, ◌==◌, ℕ, List, [], ◌∷◌, ◌++◌, Some, length};
 ghost use Rattle.std.specs.Prelude.{position, IfOk, IfErr, OnOk, OnErr};
-ghost use Rattle.std.specs.Prelude.{bytes_eq, min, option_map, string_bytes, IsTrue};
+ghost use Rattle.std.specs.Prelude.{min, option_map, IsTrue};
 ghost use Rattle.std.specs.List.{list_all};
 ghost use Rattle.std.specs.Char.{is_ascii_digit};
 ghost use Rattle.x28_commands.specs.Numbers.{decimal};
@@ -14,6 +14,7 @@ ghost use Rattle.net_files.specs.Reading.{command_word};
 ghost use Rattle.net_files.specs.Answers.{EndsLine, Gives, GivesOrWants, left_of};
 
 use crate::keywords::CommandWord;
+use crate::names::Names;
 use memchr::memchr;
 use packet_codec::Address;
 use std::alloc::{AllocError, AllocFailed, Global};
@@ -84,12 +85,11 @@ impl<'a> Words<'a> {
     }
 
     /// The next word, as the place of the node of that name.
-    pub(crate) fn node(&mut self, names: &[String]) -> Result<usize, LineFault>
-        ensures { Gives (λ node. (node, left_of self.new)) result
-            (node_at (map string_bytes names.now) (left_of self.old)) }
+    pub(crate) fn node(&mut self, names: &Names<'_>) -> Result<usize, LineFault>
+        ensures { Gives (λ node. (node, left_of self.new)) result (node_at names.now (left_of self.old)) }
     {
         let word = self.next_word()?;
-        place_of(names, word).ok_or(LineFault::NotACommand)
+        names.place_of(word).ok_or(LineFault::NotACommand)
     }
 
     /// The next word, as a number from 0 to 65,535.
@@ -139,13 +139,6 @@ impl<'a> Words<'a> {
             Some(_) => Err(LineFault::NotACommand),
         }
     }
-}
-
-/// The index of the first of these names that a word is.
-fn place_of(names: &[String], word: &[u8]) -> Option<usize>
-    ensures { result ≡ position (λ name. bytes_eq (string_bytes name) word.now) names.now }
-{
-    names.iter().position(|name| name.as_bytes() == word)
 }
 
 /// The octets before the first one of a kind, and those after it if there is one.

@@ -14,8 +14,8 @@ use Rattle.call_records.specs.Book.{Book}
 use Rattle.call_records.specs.RegisterView.{ends_of, lines_of, ends_in, register_with, register_of, IsOpen}
 use Rattle.call_records.specs.declared.register.Register.{Register}
 use Rattle.node_laws.specs.Quiet.{IsQuiet}
-use Rattle.line_nodes.specs.Node.{NodeState, Pad, Host, drained}
-use Rattle.line_nodes.specs.Notes.{user_notes}
+use Rattle.user_nodes.specs.Node.{NodeState, Pad, Host, drained}
+use Rattle.user_nodes.specs.Notes.{user_notes}
 use Rattle.frame_lines.specs.declared.line.Direction.{Direction}
 use Rattle.frame_lines.specs.declared.line.Direction.TheVariants.{FromDte, FromDce}
 use Rattle.frame_lines.specs.Lines.{Flights, LineService, flying, without_first}
@@ -29,13 +29,13 @@ use Rattle.net_events.specs.declared.node_event.LineEvent.TheVariants as line_ev
 use Rattle.net_events.specs.declared.node_event.HostEvent.TheVariants as host_event
 use Rattle.net_events.specs.declared.node_event.UserEvent.{UserEvent}
 use Rattle.net_events.specs.declared.node_event.UserEvent.TheVariants as user_event
-use Rattle.net_turns.specs.Served.{IsEmpty}
-use Rattle.net_turns.specs.Users.{IsWhole, IsRefusedWith, user_fault}
+use Rattle.node_events.specs.Served.{IsEmpty}
+use Rattle.node_events.specs.Users.{IsWhole, IsRefusedWith, user_fault}
 use Rattle.net_events.specs.declared.event.StepFault.{StepFault}
 use Rattle.net_events.specs.declared.event.StepFault.TheVariants.{NoSuchTerminal}
 use Rattle.net_nodes.specs.declared.nodes.LineSide.{LineSide}
 use Rattle.net_nodes.specs.Turns.{CanServe, CanServeUser, HadTurn, AtEnd, ActsSo, LeavesLine, UserActsSo, its_turn}
-use Rattle.net_turns.proofs.Switching.{set_there}
+use Rattle.node_events.proofs.Switching.{set_there}
 
 -- ---- before the turn
 

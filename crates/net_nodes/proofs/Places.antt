@@ -7,7 +7,7 @@ use Rattle.link_timers.specs.declared.role.Role.{Role}
 use Rattle.link_timers.specs.declared.role.Role.TheVariants.{Dte, Dce}
 use Rattle.net_events.specs.Network.{PlacedNode, NetNode, User, Switching, NetLine, Network, StandsAtLine}
 use Rattle.net_nodes.specs.Places.{IsStanding, IsPlaceOf, UserStands, HearsAt, user_in, user_at}
-use Rattle.placed_nodes.specs.Node.{user_of}
+use Rattle.net_node.specs.Node.{user_of}
 use Rattle.net_events.proofs.Lists.{within}
 
 pub none_from : {X : Type 0} (xs : List X) (i : ℕ) → (i < length xs → ⊥) → slice_get xs i ≡ None

@@ -3,17 +3,17 @@ use Rattle.std.proofs.Common.{◌≡◌, ℕ, ◌≤◌, Bool, true, false, List
 use Rattle.std.specs.Prelude.{Option, Some, None, not, if◌then◌else◌}
 use Rattle.packet_host.proofs.Sayable.{sayable}
 use Rattle.x25_pad.proofs.Nothing.{shows_nothing}
-use Rattle.line_nodes.specs.Node.{NodeState, Pad, Host, is_pad}
-use Rattle.line_nodes.specs.Questions.{node_shows, node_room_to_say}
+use Rattle.user_nodes.specs.Node.{NodeState, Pad, Host, is_pad}
+use Rattle.user_nodes.specs.Questions.{node_shows, node_room_to_say}
 use Rattle.net_events.specs.NodeEvents.{Says}
 use Rattle.net_events.specs.Network.{PlacedNode, Network}
 use Rattle.net_events.specs.declared.event.StepFault.TheVariants.{NoSuchNode, NoSuchCall}
-use Rattle.net_turns.specs.Outcomes.{event_fault, channel_fault_of}
+use Rattle.node_events.specs.Outcomes.{event_fault, channel_fault_of}
 use Rattle.net_nodes.specs.Faults.{refused, is_channel_at, at_node, on_channel}
 use Rattle.net_nodes.specs.Places.{user_at}
 use Rattle.net_nodes.specs.Questions.{net_shows, net_room_to_say, room_to_say_at, say_fault, MaySay, PrintsNothing, PrintsNothingOf}
-use Rattle.placed_nodes.specs.Node.{is_host}
-use Rattle.placed_nodes.specs.Questions.{shows_by}
+use Rattle.net_node.specs.Node.{is_host}
+use Rattle.net_node.specs.Questions.{shows_by}
 
 nothing_of : (terminal : ℕ) (n : NodeState) → node_shows n terminal ≡ false → PrintsNothingOf terminal n
 nothing_of terminal (Pad p) nothing = shows_nothing terminal p nothing

@@ -6,8 +6,8 @@ use Rattle.call_records.specs.Register as spec
 use Rattle.call_records.specs.Register.{book_at, with_book}
 use Rattle.call_records.specs.RegisterView.{register_with, register_of, lines_of, IsOpen}
 use Rattle.call_records.specs.declared.register.Register.{Register}
-use Rattle.line_nodes.specs.Node.{NodeState}
-use Rattle.line_nodes.specs.declared.attachment.Attachment.{Attachment}
+use Rattle.user_nodes.specs.Node.{NodeState}
+use Rattle.user_nodes.specs.declared.attachment.Attachment.{Attachment}
 use Rattle.frame_lines.specs.Lines.{Flights, LineService}
 use Rattle.net_events.specs.NodeEvents.{NodeEvent, turn_of}
 use Rattle.net_events.specs.EventView.{line_event_of}
@@ -17,12 +17,12 @@ use Rattle.net_events.specs.declared.event.StepFault.{StepFault}
 use Rattle.net_events.specs.declared.node_event.LineEvent.{LineEvent}
 use Rattle.net_events.specs.declared.node_event.LineEvent.TheVariants.{Hears, Expires, Relinks, Restarts}
 use Rattle.node_laws.specs.Quiet.{IsQuiet}
-use Rattle.net_turns.specs.Outcomes.{IsOutcome, text_of}
-use Rattle.net_turns.specs.Served.{Served}
-use Rattle.net_turns.specs.Users.{IsRefusedWith, IsServed, AtLine}
-use Rattle.net_turns.proofs.Opening.{written_at}
+use Rattle.node_events.specs.Outcomes.{IsOutcome, text_of}
+use Rattle.node_events.specs.Served.{Served}
+use Rattle.node_events.specs.Users.{IsRefusedWith, IsServed, AtLine}
+use Rattle.node_events.proofs.Opening.{written_at}
 use Rattle.net_events.proofs.Users.{user_is}
-use Rattle.net_turns.proofs.Switching.{set_there}
+use Rattle.node_events.proofs.Switching.{set_there}
 use Rattle.net_nodes.specs.declared.nodes.LineSide.{LineSide}
 use Rattle.net_nodes.specs.Turns.{its_turn, LineServed, UserServed, HadTurn}
 

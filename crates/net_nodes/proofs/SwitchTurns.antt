@@ -26,10 +26,10 @@ use Rattle.net_nodes.specs.Happening.{Happens}
 use Rattle.net_events.specs.declared.event.Event.TheVariants.{Deliver, Expire, Restart}
 use Rattle.net_nodes.specs.Steps.{AtSwitch, relink_at, hearer}
 use Rattle.net_nodes.proofs.UserNodeEvents.{relink_not_refused, relink_step}
-use Rattle.net_turns.specs.Switching.{HasRoom, CanPut}
+use Rattle.node_events.specs.Switching.{HasRoom, CanPut}
 use Rattle.net_nodes.specs.Switching.{CanSwitch, SwitchActed}
 use Rattle.net_events.proofs.Lists.{within}
-use Rattle.net_turns.proofs.Switching.{heard_lines, expired_lines, relinked_lines, restarted_lines}
+use Rattle.node_events.proofs.Switching.{heard_lines, expired_lines, relinked_lines, restarted_lines}
 
 -- what never fails is answered
 pub answered : {D E A : Type 0} {P : Type 0} (r : Result D E) (a : A) (Q : Result A E → Type 0) → MatchResult r (λ _. P) (λ _. ⊥) → (P → Q (Ok a)) → Q (result_and r (Ok a))

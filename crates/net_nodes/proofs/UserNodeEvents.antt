@@ -6,8 +6,8 @@ use Rattle.link_timers.specs.declared.role.Role.{Role}
 use Rattle.link_timers.specs.declared.role.Role.TheVariants.{Dte, Dce}
 use Rattle.frame_lines.specs.declared.line.Direction.{Direction}
 use Rattle.node_laws.specs.Quiet.{IsQuiet}
-use Rattle.line_nodes.specs.Node.{NodeState, Pad, Host, is_pad}
-use Rattle.line_nodes.specs.declared.terminal.TerminalEvent.{TerminalEvent}
+use Rattle.user_nodes.specs.Node.{NodeState, Pad, Host, is_pad}
+use Rattle.user_nodes.specs.declared.terminal.TerminalEvent.{TerminalEvent}
 use Rattle.frame_lines.specs.declared.line.Direction.TheVariants.{FromDte, FromDce}
 use Rattle.frame_lines.specs.Lines.{LineService, Flights, flying, without_first}
 use Rattle.net_events.specs.declared.answer.Outcome.TheVariants.{Delivered}
@@ -15,8 +15,8 @@ use Rattle.net_events.specs.NodeEvents.{NodeEvent, Hears, Relinks, Restarts}
 use Rattle.net_events.specs.EventView.{host_event_of, user_event_of}
 use Rattle.net_events.specs.Network.{PlacedNode, User, NetLine, Network, place_at}
 use Rattle.net_events.specs.declared.answer.Answer as answered
-use Rattle.net_turns.specs.Outcomes.{event_fault}
-use Rattle.net_turns.specs.Users.{IsRefusedWith, user_fault, is_channel, is_on_line}
+use Rattle.node_events.specs.Outcomes.{event_fault}
+use Rattle.node_events.specs.Users.{IsRefusedWith, user_fault, is_channel, is_on_line}
 use Rattle.net_events.specs.declared.event.Event.{Event}
 use Rattle.net_events.specs.declared.event.Event.TheVariants.{AtTerminal, Deliver, Restart}
 use Rattle.net_events.specs.declared.event.StepFault.{StepFault}
@@ -26,7 +26,7 @@ use Rattle.net_events.specs.declared.node_event.UserEvent.{UserEvent}
 use Rattle.net_events.specs.declared.node_event.UserEvent.TheVariants as user_event
 use Rattle.net_nodes.specs.declared.nodes.LineSide.{LineSide}
 use Rattle.net_nodes.specs.Places.{UserStands, IsStanding, IsPlaceOf}
-use Rattle.placed_nodes.specs.Node.{is_host, terminals_of, terminals_there}
+use Rattle.net_node.specs.Node.{is_host, terminals_of, terminals_there}
 use Rattle.net_nodes.specs.Faults.{refused, step_fault, takes_memory, IsLeftToNode, MayWant, at_node, at_host, at_terminal, where_there_is, on_channel, is_channel_at, has_channel}
 use Rattle.net_nodes.specs.Turns.{CanAct, AtEnd, ActsSo, Acts, UserActs}
 use Rattle.net_nodes.specs.Steps.{AtNode, StepOf, RelinkStep, relink_at, hearer}

@@ -4,8 +4,8 @@ use Rattle.std.specs.Prelude.{if◌then◌else◌, is_some}
 use Rattle.net_events.specs.NodeEvents.{Calls}
 use Rattle.net_events.specs.Network.{PlacedNode, NetNode, User, Switching, NetLine, Network}
 use Rattle.net_events.specs.EventView.{request_event}
-use Rattle.net_turns.specs.Outcomes.{event_fault}
-pub use Rattle.net_turns.specs.Users.{refused, IsLeftToNode}
+use Rattle.node_events.specs.Outcomes.{event_fault}
+pub use Rattle.node_events.specs.Users.{refused, IsLeftToNode}
 use Rattle.net_events.specs.declared.event.Event.{Event}
 use Rattle.net_events.specs.declared.event.Event.TheVariants.{AtTerminal, Call, Ask, Take, Deliver, Lose, Expire}
 use Rattle.net_events.specs.declared.event.Event.TheVariants.{Relink, GivesUp}
@@ -13,7 +13,7 @@ use Rattle.net_events.specs.declared.event.Event.TheVariants.{Restart}
 use Rattle.net_events.specs.declared.event.StepFault.{StepFault}
 use Rattle.net_events.specs.declared.event.StepFault.TheVariants.{NoSuchNode, NoSuchTerminal, NoSuchCall}
 use Rattle.net_nodes.specs.Places.{is_host_at, pad_terminals, user_at}
-use Rattle.placed_nodes.specs.Node.{own_line}
+use Rattle.net_node.specs.Node.{own_line}
 
 -- ---- where an event is
 

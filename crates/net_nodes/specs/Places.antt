@@ -5,7 +5,7 @@ use Rattle.node_laws.specs.Quiet.{IsQuiet}
 use Rattle.net_events.specs.Network.{PlacedNode, PlacedSwitch, NetNode, User, Switching, NetLine, Network, place_at}
 use Rattle.net_events.specs.Network.{Stands, own_role}
 use Rattle.net_nodes.specs.declared.nodes.LineSide.{LineSide}
-use Rattle.placed_nodes.specs.Node.{user_of, own_line, is_host, terminals_there}
+use Rattle.net_node.specs.Node.{user_of, own_line, is_host, terminals_there}
 
 -- a node with users stands at the end of a role of a line, and neither a frame nor a note waits at it
 pub record UserStands (s : Network) (line : ℕ) (l : NetLine) (role : Role) : Type 0 where

@@ -1,16 +1,16 @@
 -- What may be asked of a network without changing it.
 use Rattle.std.specs.Prelude.{◌≡◌, ℕ, ◌==◌, ◌≤◌, ◌&&◌, if◌then◌else◌, Bool, false, List, [], length, Option, Some, None}
 use Rattle.std.specs.List.{list_all}
-use Rattle.line_nodes.specs.Node.{NodeState, Pad, Host, node_confirmed}
-use Rattle.line_nodes.specs.Questions.{node_has_to_take, node_room_to_say}
+use Rattle.user_nodes.specs.Node.{NodeState, Pad, Host, node_confirmed}
+use Rattle.user_nodes.specs.Questions.{node_has_to_take, node_room_to_say}
 use Rattle.net_events.specs.Network.{PlacedNode, NetLine, Network}
 use Rattle.net_nodes.specs.Places.{user_at}
 use Rattle.net_events.specs.NodeEvents.{Says}
 use Rattle.net_events.specs.declared.event.StepFault.{StepFault}
-use Rattle.net_turns.specs.Outcomes.{event_fault}
+use Rattle.node_events.specs.Outcomes.{event_fault}
 use Rattle.net_nodes.specs.Faults.{is_channel_at, at_host, on_channel, refused}
-use Rattle.placed_nodes.specs.Node.{rests}
-use Rattle.placed_nodes.specs.Questions.{shows_by}
+use Rattle.net_node.specs.Node.{rests}
+use Rattle.net_node.specs.Questions.{shows_by}
 use Rattle.x25_pad.specs.Pad.{print_text, print_taken}
 
 -- the channel of this number, if a node with users is there, and its line has the channel

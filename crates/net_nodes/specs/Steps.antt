@@ -20,7 +20,7 @@ use Rattle.net_events.specs.declared.event.Event.TheVariants.{AtTerminal, Call, 
 use Rattle.net_events.specs.declared.event.Event.TheVariants.{Relink, GivesUp}
 use Rattle.net_events.specs.declared.event.Event.TheVariants.{Restart}
 use Rattle.net_nodes.specs.declared.nodes.LineSide.{LineSide}
-use Rattle.net_turns.specs.Switching.{all_puts}
+use Rattle.node_events.specs.Switching.{all_puts}
 use Rattle.net_nodes.specs.Turns.{AtEnd}
 
 -- the end that hears what is sent in a direction

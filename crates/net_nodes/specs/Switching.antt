@@ -7,7 +7,7 @@ use Rattle.net_events.specs.AtSwitch.{SwitchEvent, HasOwnLine, switched, joins_o
 use Rattle.net_events.specs.Network.{PlacedSwitch, NetNode, NetLine, Switching, Network, own_role}
 use Rattle.net_events.specs.declared.answer.Answer.{Answer}
 use Rattle.net_events.specs.declared.answer.Put.{Put}
-use Rattle.net_turns.specs.Switching.{CanPut, LinesPut, SwitchServed, is_anew, all_puts}
+use Rattle.node_events.specs.Switching.{CanPut, LinesPut, SwitchServed, is_anew, all_puts}
 use Rattle.net_nodes.specs.Steps.{switch_outcome}
 
 -- the event can be at the switch of this place

@@ -7,10 +7,10 @@ use Rattle.call_records.specs.Register.{book_at, with_book}
 use Rattle.call_records.specs.RegisterView.{IsOpen}
 use Rattle.call_records.specs.declared.register.Register.{Register}
 use Rattle.node_laws.specs.Quiet.{IsQuiet}
-use Rattle.line_nodes.specs.Node.{NodeState, drained, frames_of}
-use Rattle.line_nodes.specs.Turn.{Turn}
-use Rattle.line_nodes.specs.Notes.{user_notes}
-use Rattle.line_nodes.specs.declared.attachment.Attachment.{Attachment}
+use Rattle.user_nodes.specs.Node.{NodeState, drained, frames_of}
+use Rattle.user_nodes.specs.Turn.{Turn}
+use Rattle.user_nodes.specs.Notes.{user_notes}
+use Rattle.user_nodes.specs.declared.attachment.Attachment.{Attachment}
 use Rattle.frame_lines.specs.Lines.{Flights, LineService}
 use Rattle.net_events.specs.OneLine.{direction_of}
 use Rattle.net_events.specs.NodeEvents.{NodeEvent, turn_of}
@@ -20,10 +20,10 @@ use Rattle.net_events.specs.declared.answer.Answer.{Answer}
 use Rattle.net_events.specs.declared.node_event.LineEvent.{LineEvent}
 use Rattle.net_events.specs.declared.node_event.LineEvent.TheVariants.{Hears, Restarts}
 use Rattle.net_events.specs.declared.node_event.UserEvent.{UserEvent}
-use Rattle.net_turns.specs.Outcomes.{IsOutcome, text_of}
-use Rattle.net_turns.specs.Sends.{ArePutsOf, Sends}
-use Rattle.net_turns.specs.Served.{Served, IsEmpty}
-use Rattle.net_turns.specs.Users.{IsServed, IsRefusedWith, user_fault}
+use Rattle.node_events.specs.Outcomes.{IsOutcome, text_of}
+use Rattle.node_events.specs.Sends.{ArePutsOf, Sends}
+use Rattle.node_events.specs.Served.{Served, IsEmpty}
+use Rattle.node_events.specs.Users.{IsServed, IsRefusedWith, user_fault}
 use Rattle.net_events.specs.declared.event.StepFault.{StepFault}
 use Rattle.net_events.specs.declared.event.StepFault.TheVariants.{OutOfMemory}
 use Rattle.net_nodes.specs.declared.nodes.LineSide.{LineSide}

@@ -3,7 +3,7 @@ ghost use Rattle.std.specs.Prelude.{◌≡◌, ◌≢◌, MatchResult, None, Ok,
 ghost use Rattle.std.specs.Result.{result_and};
 ghost use Rattle.call_records.specs.Register.{HasNoRecords, forgotten};
 ghost use Rattle.net_events.specs.declared.event.StepFault.TheVariants.{NoSuchNode, NoSuchCall, OutOfMemory};
-ghost use Rattle.net_turns.specs.AnswerRoom.{IsRoomy};
+ghost use Rattle.node_events.specs.AnswerRoom.{IsRoomy};
 ghost use Rattle.net_nodes.specs.Faults.{is_channel_at};
 ghost use Rattle.net_nodes.specs.Places.{IsStanding, IsPlaceOf, user_at, own_line_at};
 ghost use Rattle.net_nodes.specs.Happening.{Happens};
@@ -20,8 +20,8 @@ use frame_codec::FrameBuf;
 use frame_lines::Line;
 use link_timers::Role;
 use net_events::{Answer, Event, StepFault};
-use net_turns::NetLine;
-use placed_nodes::NetNode;
+use net_node::NetNode;
+use node_events::NetLine;
 use std::marker::Model;
 
 /// An end of a line.

@@ -3,12 +3,12 @@ use Rattle.std.proofs.Common.{◌≡◌, ℕ, List, [], ◌++◌, Option, None, 
 use Rattle.std.specs.Io.KnownBytes.{Keeps, append_known}
 use Rattle.octet_streams.proofs.Written.{appends_kept}
 use Rattle.command_words.specs.declared.invocation.Invocation.{Invocation}
-use Rattle.command_words.specs.declared.invocation.Mode.{Mode}
+use Rattle.command_words.specs.declared.invocation.RunMode.{RunMode}
 use Rattle.net_config.specs.declared.config.Config.{Config}
 use Rattle.net_files.specs.declared.script.Script.{Script}
 use Rattle.net_player.specs.Programs.{PlaysOn, PlaysTexts, PlaysAsked, Performs}
 
-plays_on_kept : {mode : Mode} {config : Config} {script : Script} (a b c : Option (List ℕ))
+plays_on_kept : {mode : RunMode} {config : Config} {script : Script} (a b c : Option (List ℕ))
     → PlaysOn mode config script a b → Keeps b c → PlaysOn mode config script a c
 plays_on_kept a b c plays kept = record {
   start = plays.start;
@@ -21,7 +21,7 @@ plays_on_kept a b c plays kept = record {
   };
 }
 
-plays_texts_kept : {mode : Mode} {IsNet IsText : List ℕ → Type 0} (a b c : Option (List ℕ))
+plays_texts_kept : {mode : RunMode} {IsNet IsText : List ℕ → Type 0} (a b c : Option (List ℕ))
     → PlaysTexts mode IsNet IsText a b → Keeps b c → PlaysTexts mode IsNet IsText a c
 plays_texts_kept a b c plays kept = record {
   net = plays.net;

@@ -1,6 +1,6 @@
 -- Why a network is not made, and what follows of it.
 use Rattle.std.proofs.Common.{◌≡◌, ℕ, Bool, true, false, List, Option, Result, Err, IsOkUnless, refl, subst}
-use Rattle.command_words.specs.declared.invocation.Mode.{Mode}
+use Rattle.command_words.specs.declared.invocation.RunMode.{RunMode}
 use Rattle.net_config.specs.declared.config.Config.{Config}
 use Rattle.net_config.specs.declared.fault.MakeFault.{MakeFault}
 use Rattle.net_config.specs.declared.fault.MakeFault.TheVariants.{BadConfig, OutOfMemory}
@@ -21,7 +21,7 @@ not_served {N} true result unless is =
     absurd (other (subst P is (unless refl)))
 
 -- the network was not made
-pub made_fails : {N : Type 0} {mode : Mode} {config : Config} {script : Script} (known : Option (List ℕ)) (fault : MakeFault)
+pub made_fails : {N : Type 0} {mode : RunMode} {config : Config} {script : Script} (known : Option (List ℕ)) (fault : MakeFault)
     (result : Result N MakeFault) → (is_served config ≡ true → IsOkUnless result OutOfMemory) → result ≡ Err fault
     → PlayFails mode config script known known (making_fault fault)
 made_fails known OutOfMemory result unless is = no_memory refl

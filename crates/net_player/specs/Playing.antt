@@ -3,7 +3,7 @@ use Rattle.std.specs.Prelude.{◌≡◌, ◌≢◌, ◌↔◌, ℕ, zero, suc, �
 use Rattle.std.specs.Prelude.{Some, None, Result, Ok, Err, IsTrue, codes}
 use Rattle.frame_lines.specs.declared.line.Direction.TheVariants.{FromDte, FromDce}
 use Rattle.frame_lines.specs.Lines.{LineService}
-use Rattle.line_nodes.specs.declared.terminal.TerminalEvent.TheVariants.{Key}
+use Rattle.user_nodes.specs.declared.terminal.TerminalEvent.TheVariants.{Key}
 use Rattle.net_events.specs.declared.event.Event.{Event}
 use Rattle.net_events.specs.declared.event.Event.TheVariants.{AtTerminal, Deliver}
 use Rattle.net_events.specs.declared.answer.Outcome.{Outcome}

@@ -8,8 +8,8 @@ use Rattle.frame_lines.specs.declared.fault.SocketFault.{SocketFault}
 use Rattle.frame_lines.specs.declared.fault.SocketFault.TheVariants as socket_fault_is
 use Rattle.octet_streams.specs.declared.reading.ReadFault.{ReadFault}
 use Rattle.octet_streams.specs.declared.reading.ReadFault.TheVariants as read_fault_is
-use Rattle.command_words.specs.declared.invocation.Mode.{Mode}
-use Rattle.command_words.specs.declared.invocation.Mode.TheVariants.{Sim, Run}
+use Rattle.command_words.specs.declared.invocation.RunMode.{RunMode}
+use Rattle.command_words.specs.declared.invocation.RunMode.TheVariants.{Sim, Run}
 use Rattle.command_words.specs.declared.invocation.Invocation.{Invocation}
 use Rattle.command_words.specs.Invocations.{Asks}
 use Rattle.net_config.specs.declared.config.Config.{Config}
@@ -31,13 +31,13 @@ use Rattle.net_player.specs.Stopping.{IsPlayFault, PlayStops}
 -- ---- a script on a network
 
 -- the lines of a mode
-abbrev pub lines_of : Mode → LineService
+abbrev pub lines_of : RunMode → LineService
 lines_of Sim = memory_service
 lines_of Run = socket_service
 
 -- the network was made on lines of this mode, the script was played to its end, and its text was written behind what
 -- was known to be written
-pub record PlaysOn (mode : Mode) (config : Config) (script : Script) (before after : Option (List ℕ)) : Type 0 where
+pub record PlaysOn (mode : RunMode) (config : Config) (script : Script) (before after : Option (List ℕ)) : Type 0 where
   pub start : Network
   pub made : IsMadeBy (lines_of mode) config start
   pub ended : Network
@@ -45,7 +45,7 @@ pub record PlaysOn (mode : Mode) (config : Config) (script : Script) (before aft
 
 -- or it was not: memory was wanted, a socket was not had for a line or the configuration is not served, before
 -- anything was written; or the play stopped, with a fault of its own, and what was told until then was written
-pub data PlayFails (mode : Mode) (config : Config) (script : Script) (before after : Option (List ℕ))
+pub data PlayFails (mode : RunMode) (config : Config) (script : Script) (before after : Option (List ℕ))
     : ProgFault → Type 0 where
   no_memory : after ≡ before → PlayFails mode config script before after fault_is.OutOfMemory
   no_socket : mode ≡ Run → 0 < length config.lines.items → after ≡ before
@@ -85,7 +85,7 @@ abbrev pub IsOfFile : List ℕ → Type 0
 IsOfFile text = IsOfSize text
 
 -- a network and a script were read, each of a text of its kind, and the script was played on the network
-pub record PlaysTexts (mode : Mode) (IsNet IsText : List ℕ → Type 0) (before after : Option (List ℕ)) : Type 0 where
+pub record PlaysTexts (mode : RunMode) (IsNet IsText : List ℕ → Type 0) (before after : Option (List ℕ)) : Type 0 where
   pub net : List ℕ
   pub is_net : IsNet net
   pub config : Config
@@ -98,7 +98,7 @@ pub record PlaysTexts (mode : Mode) (IsNet IsText : List ℕ → Type 0) (before
 
 -- or not: memory was wanted, a text could not be had, that of the network is no text or spells no network, the
 -- script has a line that is no command, each before anything was written; or the script was not played to its end
-pub data TextsFail (mode : Mode) (IsNet IsText : List ℕ → Type 0) (before after : Option (List ℕ))
+pub data TextsFail (mode : RunMode) (IsNet IsText : List ℕ → Type 0) (before after : Option (List ℕ))
     : ProgFault → Type 0 where
   no_memory : after ≡ before → TextsFail mode IsNet IsText before after fault_is.OutOfMemory
   unread : after ≡ before → TextsFail mode IsNet IsText before after fault_is.File

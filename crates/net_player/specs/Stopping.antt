@@ -1,5 +1,5 @@
 -- When a script stops before its end: memory is wanted, or the output refuses a text.
-use Rattle.std.specs.Prelude.{◌≡◌, ◌≢◌, ◌⊎◌, ℕ, ◌<◌, Bool, false, List, [], ◌++◌, Some, Result, Err}
+use Rattle.std.specs.Prelude.{◌≡◌, ◌≢◌, ◌⊎◌, ℕ, ◌<◌, ◌≤◌, Bool, false, List, [], ◌++◌, Option, Some, Result, Err, IfOk, IfErr}
 use Rattle.frame_lines.specs.Lines.{LineService}
 use Rattle.net_events.specs.declared.event.Event.{Event}
 use Rattle.net_events.specs.declared.answer.Answer.{Answer}
@@ -15,6 +15,7 @@ use Rattle.net_files.specs.Commands.{CommandView}
 use Rattle.net_files.specs.Commands.{CommandView as command}
 use Rattle.net_files.specs.declared.script.Script.{Script}
 use Rattle.answer_texts.specs.Answers.{Names, answer_text, check_line}
+use Rattle.octet_streams.specs.Written.{Writes}
 use Rattle.net_player.specs.InTurn.{InTurn, StopsInTurn}
 use Rattle.net_player.specs.Playing.{key_events, TellsEvent, Flowing, Delivers, deliveries_from, Passes, Played}
 use Rattle.net_player.specs.Playing.{IsChecked, DoesCommand, end_line}
@@ -43,6 +44,15 @@ pub record DeliveryStops (L : LineService) (names : Names) (traces : Bool) (faul
     (s : Flowing) (part : List ℕ) : Type 0 where
   pub may_deliver : 0 < s.left
   pub stops : StopsAt L names traces fault e s.net part
+
+-- a delivery in a flow is tried: how many may be delivered behind it and what is written, or where it stops
+pub record TriesDelivery (L : LineService) (names : Names) (traces : Bool) (e : Event) (s : Flowing)
+    (before after : Option (List ℕ)) (result : Result ℕ ProgFault) (t : Network) : Type 0 where
+  pub delivers : IfOk result (λ still_left. Writes before after
+      (λ text. Delivers L names traces e s text (record { left = still_left; net = t })))
+  pub at_most : IfOk result (λ still_left. still_left ≤ s.left)
+  pub stops : IfErr result (λ fault. Writes before after (DeliveryStops L names traces fault e s))
+  pub faults : IfErr result IsPlayFault
 
 -- a pass over the lines in which it stops
 abbrev pub PassStops : (L : LineService) → Names → (traces : Bool) → (lines : ℕ) → ProgFault → Flowing → List ℕ → Type 0

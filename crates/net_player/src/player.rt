@@ -10,20 +10,19 @@ ghost use Rattle.network_laws.specs.DueCount.{all_due};
 ghost use Rattle.net_nodes.specs.Due.{net_due};
 ghost use Rattle.net_player.specs.InTurn.{InTurn, StopsInTurn};
 ghost use Rattle.octet_streams.specs.Written.{Writes};
-ghost use Rattle.net_player.specs.Playing.{has_arrived, key_events, Tells, TellsEvent, Delivers, Passes, Flows};
-ghost use Rattle.net_player.specs.Playing.{Ticks};
+ghost use Rattle.net_player.specs.Playing.{has_arrived, key_events, Tells, TellsEvent, Passes, Flows, Ticks};
 ghost use Rattle.net_player.specs.Playing.{DoesCommand, Plays, end_line};
 ghost use Rattle.net_files.specs.Commands.{view_of};
-ghost use Rattle.net_player.specs.Stopping.{IsPlayFault, IsPartOf, StopsAt, DeliveryStops, PassStops, FlowStops};
+ghost use Rattle.net_player.specs.Stopping.{IsPlayFault, IsPartOf, StopsAt, TriesDelivery, PassStops, FlowStops};
 ghost use Rattle.net_player.specs.Stopping.{ExpiryStops, CommandStops, PlayStops};
 
 use crate::output::{write, write_octets};
 use answer_texts::{add_answer, check_line, prints_nothing, refusal_text};
-use line_nodes::TerminalEvent;
 use line_sim::{Answer, Direction, Event, Line, Net, Outcome, StepFault};
-use net_files::{Command, Keys, ProgFault, Script};
+use net_files::{Keys, ProgFault, Script, ScriptCommand};
 use std::alloc::Global;
 use std::io::Write;
+use user_nodes::TerminalEvent;
 
 /// How many frames a `flow` delivers at most.
 const FLOW_LIMIT: u32 = 100_000;
@@ -79,7 +78,7 @@ impl Player<'_> {
     fn play_command<L: Line, W: Write>(
         &self,
         net: &mut Net<L>,
-        command: &Command<'_>,
+        command: &ScriptCommand<'_>,
         text: &mut Vec<u8>,
         out: &mut W,
     ) -> Result<bool, ProgFault>
@@ -92,24 +91,24 @@ impl Player<'_> {
         ensures faults { IfErr result IsPlayFault }
     {
         match command {
-            Command::Keys(keys) => {
+            ScriptCommand::Keys(keys) => {
                 self.play_keys(net, *keys, text, out)?;
                 Ok(self.traces)
             }
-            Command::Event(event) => {
+            ScriptCommand::Event(event) => {
                 self.play_event(net, event, text, out)?;
                 Ok(self.traces)
             }
-            Command::Flow => {
+            ScriptCommand::Flow => {
                 self.flow(net, text, out)?;
                 Ok(self.traces)
             }
-            Command::Tick(ticks) => {
+            ScriptCommand::Tick(ticks) => {
                 self.tick(net, *ticks, text, out)?;
                 Ok(self.traces)
             }
-            Command::Trace(on) => Ok(*on),
-            Command::Check => {
+            ScriptCommand::Trace(on) => Ok(*on),
+            ScriptCommand::Check => {
                 write(out, check_line(net.all_match()))?;
                 Ok(self.traces)
             }
@@ -209,14 +208,8 @@ impl Player<'_> {
         text: &mut Vec<u8>,
         out: &mut W,
     ) -> Result<u32, ProgFault>
-        ensures delivers { IfOk result (λ still_left. Writes (W.contents out.old) (W.contents out.new)
-            (λ text. Delivers L.service self.now.names.now self.now.traces (Deliver line direction)
-            (record { left = left; net = net.old }) text (record { left = still_left; net = net.new }))) }
-        ensures at_most { IfOk result (λ still_left. still_left ≤ left) }
-        ensures stops { IfErr result (λ fault. Writes (W.contents out.old) (W.contents out.new)
-            (DeliveryStops L.service self.now.names.now self.now.traces fault (Deliver line direction)
-            (record { left = left; net = net.old }))) }
-        ensures faults { IfErr result IsPlayFault }
+        ensures { TriesDelivery L.service self.now.names.now self.now.traces (Deliver line direction)
+            (record { left = left; net = net.old }) (W.contents out.old) (W.contents out.new) result net.new }
     {
         if left == 0 {
             return Ok(0);
@@ -239,14 +232,8 @@ impl Player<'_> {
         out: &mut W,
     ) -> Result<u32, ProgFault>
         requires { 0 < left }
-        ensures delivers { IfOk result (λ still_left. Writes (W.contents out.old) (W.contents out.new)
-            (λ text. Delivers L.service self.now.names.now self.now.traces (Deliver line direction)
-            (record { left = left; net = net.old }) text (record { left = still_left; net = net.new }))) }
-        ensures at_most { IfOk result (λ still_left. still_left ≤ left) }
-        ensures stops { IfErr result (λ fault. Writes (W.contents out.old) (W.contents out.new)
-            (DeliveryStops L.service self.now.names.now self.now.traces fault (Deliver line direction)
-            (record { left = left; net = net.old }))) }
-        ensures faults { IfErr result IsPlayFault }
+        ensures { TriesDelivery L.service self.now.names.now self.now.traces (Deliver line direction)
+            (record { left = left; net = net.old }) (W.contents out.old) (W.contents out.new) result net.new }
     {
         let delivery = Event::Deliver { line, direction };
         if self.play_event(net, &delivery, text, out)? {

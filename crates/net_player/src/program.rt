@@ -12,7 +12,7 @@ ghost use Rattle.net_player.specs.Programs.{making_fault, reading_fault, socket_
 
 use crate::output::write;
 use crate::player::play;
-use command_words::{Invocation, Mode, WordsFault, read_words};
+use command_words::{Invocation, RunMode, WordsFault, read_words};
 use frame_lines::{SocketFault, UdpLine};
 use itoa::Buffer;
 use line_sim::{Config, MakeFault, Net};
@@ -182,9 +182,9 @@ fn write_script_fault<E: Write>(line: usize, err: &mut E) -> Result<(), ProgFaul
 
 /// Plays the script that the input has on the built-in network.
 fn play_first<R: Read, W: Write>(alloc: Global, input: &mut R, out: &mut W) -> Result<(), ProgFault>
-    ensures played { OnOk result (PlaysTexts Mode.Sim IsFirst (IsLeftOf (R.remaining input.old))
+    ensures played { OnOk result (PlaysTexts RunMode.Sim IsFirst (IsLeftOf (R.remaining input.old))
         (W.contents out.old) (W.contents out.new)) }
-    ensures failed { IfErr result (TextsFail Mode.Sim IsFirst (IsLeftOf (R.remaining input.old))
+    ensures failed { IfErr result (TextsFail RunMode.Sim IsFirst (IsLeftOf (R.remaining input.old))
         (W.contents out.old) (W.contents out.new)) }
 {
     let config = read_net(alloc, FIRST)?;
@@ -216,7 +216,7 @@ fn play_files<S: Files + net::Net, W: Write>(
 fn play_over<N: net::Net, W: Write>(
     system: &N,
     alloc: Global,
-    mode: Mode,
+    mode: RunMode,
     config: &Config,
     script: &Script,
     out: &mut W,
@@ -227,8 +227,8 @@ fn play_over<N: net::Net, W: Write>(
         (W.contents out.old) (W.contents out.new)) }
 {
     match mode {
-        Mode::Sim => play_in_memory(alloc, config, script, out),
-        Mode::Run => play_over_sockets(system, alloc, config, script, out),
+        RunMode::Sim => play_in_memory(alloc, config, script, out),
+        RunMode::Run => play_over_sockets(system, alloc, config, script, out),
     }
 }
 
@@ -239,9 +239,9 @@ fn play_in_memory<W: Write>(
     script: &Script,
     out: &mut W,
 ) -> Result<(), ProgFault>
-    ensures played { OnOk result (PlaysOn Mode.Sim config.now script.now
+    ensures played { OnOk result (PlaysOn RunMode.Sim config.now script.now
         (W.contents out.old) (W.contents out.new)) }
-    ensures failed { IfErr result (PlayFails Mode.Sim config.now script.now
+    ensures failed { IfErr result (PlayFails RunMode.Sim config.now script.now
         (W.contents out.old) (W.contents out.new)) }
 {
     match Net::on_memory_lines(alloc, config) {
@@ -258,9 +258,9 @@ fn play_over_sockets<N: net::Net, W: Write>(
     script: &Script,
     out: &mut W,
 ) -> Result<(), ProgFault>
-    ensures played { OnOk result (PlaysOn Mode.Run config.now script.now
+    ensures played { OnOk result (PlaysOn RunMode.Run config.now script.now
         (W.contents out.old) (W.contents out.new)) }
-    ensures failed { IfErr result (PlayFails Mode.Run config.now script.now
+    ensures failed { IfErr result (PlayFails RunMode.Run config.now script.now
         (W.contents out.old) (W.contents out.new)) }
 {
     let lines = socket_lines(system, alloc, config.lines.len())?;

@@ -5,7 +5,7 @@ ghost use Rattle.net_nodes.specs.Faults.{step_fault};
 ghost use Rattle.net_nodes.specs.Happening.{IsRefusedSo};
 ghost use Rattle.net_nodes.specs.Steps.{hearer};
 ghost use Rattle.std.specs.List.{position};
-ghost use Rattle.net_turns.specs.AnswerRoom.{IsWithinLimits};
+ghost use Rattle.node_events.specs.AnswerRoom.{IsWithinLimits};
 ghost use Rattle.net_process.specs.Process.{runs, may_be, due_here, IsDueFirst};
 ghost use Rattle.net_process.specs.Carrying.{elapsed};
 ghost use Rattle.net_process.specs.Remote.{given_up_at, given_up, after_given_up, is_given_up};

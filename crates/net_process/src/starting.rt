@@ -1,7 +1,7 @@
 //! How the nodes of a process start.
 ghost use Rattle.std.specs.Prelude.{◌≡◌, ◌≢◌, ℕ, true, false, map, slice_get, IfOk, MatchOption, Err};
 ghost use Rattle.net_events.specs.declared.event.StepFault.TheVariants as step_fault_is;
-ghost use Rattle.net_turns.specs.AnswerRoom.{IsWithinLimits};
+ghost use Rattle.node_events.specs.AnswerRoom.{IsWithinLimits};
 ghost use Rattle.net_process.specs.Process.{may_start, is_clear_in};
 ghost use Rattle.net_process.specs.Starting.{started_at, IsFirstToStart};
 

@@ -6,7 +6,7 @@ use Rattle.link_timers.specs.declared.role.Role.TheVariants.{Dte, Dce}
 use Rattle.data_transfer.proofs.Windows.{window_below}
 use Rattle.packet_channel.specs.Channel.{Channel, may_accept, in_transfer}
 use Rattle.packet_layer.specs.Layer.{Layer, channel_of}
-use Rattle.node_laws.specs.Lines.Line.{Line}
+use Rattle.node_laws.specs.Lines.NodeLine.{Line}
 use Rattle.call_records.specs.Book.{Book, slot_at}
 use Rattle.record_laws.specs.Books.Told.{after_all}
 use Rattle.record_laws.specs.Books.Headline.{HaveRecords, IsPaired, HasCallee, AreAnswered, layer_at}

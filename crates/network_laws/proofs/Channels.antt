@@ -4,7 +4,7 @@ use Rattle.std.proofs.lemmas.List.{length-replicate, length-set}
 use Rattle.link_timers.specs.declared.role.Role.{Role}
 use Rattle.link_timers.specs.declared.role.Role.TheVariants.{Dte, Dce}
 use Rattle.call_records.specs.Book.{Book, Slot, side_of, free_slot, made_book}
-use Rattle.line_nodes.specs.Node.{NodeState}
+use Rattle.user_nodes.specs.Node.{NodeState}
 use Rattle.net_events.specs.NodeEvents.{NodeEvent, turn_of}
 use Rattle.network_laws.proofs.Shapes.{EndsStay, writes_stay}
 use Rattle.network_laws.proofs.Uniform.{IsUniform, uniform}

@@ -28,16 +28,16 @@ use Rattle.node_laws.specs.Pads.Typed.{AreTyped}
 use Rattle.node_laws.proofs.Pads.EventCourses.{all_stand, sent_so}
 use Rattle.node_laws.proofs.Pads.TypedSteps.{typed_so}
 use Rattle.node_laws.proofs.Pads.Lists.{still_none}
-use Rattle.line_nodes.specs.Node as node
-use Rattle.line_nodes.specs.Node.{NodeState, Pad}
-use Rattle.line_nodes.specs.Turn.{Turn}
+use Rattle.user_nodes.specs.Node as node
+use Rattle.user_nodes.specs.Node.{NodeState, Pad}
+use Rattle.user_nodes.specs.Turn.{Turn}
 use Rattle.frame_lines.specs.Lines.{Flights, LineService}
 use Rattle.net_events.specs.NodeEvents.{NodeEvent, IsFor, turn_of}
 use Rattle.net_events.specs.Network.{PlacedNode, NetNode, User, NetLine, Network, place_at, with_turn_at, net_turn, HappenedAt, elapsed_node}
 use Rattle.network_laws.specs.Courses.{HasCourse, one_or_none, brought_by, OwnCourse, OtherCourse, LossCourse, TimeCourse, SentCourse, TypedCourse}
-use Rattle.network_laws.specs.Promise.{EndHolds}
+use Rattle.network_laws.specs.LinesPromise.{EndHolds}
 use Rattle.network_laws.specs.Switched.IsSwitched.{IsAny}
-use Rattle.network_laws.specs.Switched.Promise.{InnerPromise}
+use Rattle.network_laws.specs.Switched.InnerPromise.{InnerPromise}
 use Rattle.network_laws.proofs.Elsewhere.{IsAway, all_away}
 use Rattle.network_laws.proofs.LineCourses.{IsPadTurn, pad_turn}
 use Rattle.network_laws.proofs.PadTerminals.{count, count_terminal_event, count_idle, count_line}

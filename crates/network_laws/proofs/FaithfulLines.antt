@@ -4,16 +4,16 @@ use Rattle.std.specs.Prelude.{slice_get}
 use Rattle.link_timers.specs.declared.role.Role.{Role}
 use Rattle.link_timers.specs.declared.role.Role.TheVariants.{Dte, Dce}
 use Rattle.lapb.specs.Machine.{Octets}
-use Rattle.lapb.specs.Line.{chosen}
+use Rattle.lapb.specs.LinkLine.{chosen}
 use Rattle.packet_end.specs.PacketEnd.{PacketEnd}
 use Rattle.packet_end.specs.PacketEnd as end
-use Rattle.node_laws.specs.Lines.Line as line
+use Rattle.node_laws.specs.Lines.NodeLine as line
 use Rattle.node_laws.specs.LineRecords.Kept.{Kept, coming_to}
 use Rattle.node_laws.specs.LineRecords.Happens.{sent, with_event, with_restart}
-use Rattle.line_nodes.specs.Node.{NodeState, Pad, Host, end_of, drained, frames_of}
-use Rattle.line_nodes.specs.Turn.{Turn}
-use Rattle.line_nodes.specs.LineTurns.{restarts}
-use Rattle.line_nodes.specs.NodeEvents.{restarted}
+use Rattle.user_nodes.specs.Node.{NodeState, Pad, Host, end_of, drained, frames_of}
+use Rattle.user_nodes.specs.Turn.{Turn}
+use Rattle.user_nodes.specs.LineTurns.{restarts}
+use Rattle.user_nodes.specs.NodeEvents.{restarted}
 use Rattle.frame_lines.specs.declared.line.Direction.TheVariants.{FromDte, FromDce}
 use Rattle.frame_lines.specs.Lines.{Flights, no_flights, flying, LineService, ArePut}
 use Rattle.net_events.specs.OneLine.{LineState, node_at, with_turn, direction_of, direction_to}

@@ -3,14 +3,14 @@ use Rattle.std.proofs.Common.{◌≡◌, Bool, List, ◌++◌, refl, sym, ap, �
 use Rattle.link_timers.specs.declared.role.Role.{Role}
 use Rattle.link_timers.specs.declared.role.Role.TheVariants.{Dte, Dce}
 use Rattle.lapb.specs.Machine.{Octets}
-use Rattle.lapb.specs.Line.{chosen}
-use Rattle.node_laws.specs.Lines.Line as line
+use Rattle.lapb.specs.LinkLine.{chosen}
+use Rattle.node_laws.specs.Lines.NodeLine as line
 use Rattle.node_laws.specs.LineRecords.Kept.{Setting, Kept, coming_to}
 use Rattle.node_laws.specs.LineRecords.Happens.{sent, with_event}
 use Rattle.node_laws.specs.Nodes.{StandsAt}
 use Rattle.node_laws.specs.Quiet.{IsQuiet}
-use Rattle.line_nodes.specs.Node.{NodeState, Pad, Host, end_of, is_pad, drained, frames_of}
-use Rattle.line_nodes.specs.Turn.{Turn}
+use Rattle.user_nodes.specs.Node.{NodeState, Pad, Host, end_of, is_pad, drained, frames_of}
+use Rattle.user_nodes.specs.Turn.{Turn}
 use Rattle.frame_lines.specs.Lines.{Flights, flying, LineService, ArePut}
 use Rattle.net_events.specs.OneLine.{LineState, node_at, with_turn, direction_of, direction_to}
 use Rattle.network_laws.specs.IsLine.{NodeHolds, line_of, IsKept, AreQuiet, IsLine}

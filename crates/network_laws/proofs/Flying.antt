@@ -5,10 +5,10 @@ use Rattle.link_timers.specs.declared.role.Role.{Role}
 use Rattle.link_timers.specs.declared.role.Role.TheVariants.{Dte, Dce}
 use Rattle.link_timers.specs.Role.{other_of}
 use Rattle.lapb.specs.Machine.{Octets}
-use Rattle.lapb.specs.Line.{chosen}
+use Rattle.lapb.specs.LinkLine.{chosen}
 use Rattle.frame_lines.specs.declared.line.Direction.{Direction}
 use Rattle.frame_lines.specs.declared.line.Direction.TheVariants.{FromDte, FromDce}
-use Rattle.line_nodes.specs.Node.{NodeState, frames_of}
+use Rattle.user_nodes.specs.Node.{NodeState, frames_of}
 use Rattle.frame_lines.specs.Lines.{Flights, no_flights, LineService, flying, with_flying, ArePut}
 use Rattle.net_events.specs.OneLine.{direction_of}
 use Rattle.net_events.specs.Opening.{end_of_two, AreSent}

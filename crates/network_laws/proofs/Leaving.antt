@@ -18,12 +18,12 @@ use Rattle.call_records.specs.Writes.{Write, all_written}
 use Rattle.node_laws.specs.Nodes.{StandsAt}
 use Rattle.node_laws.specs.Quiet.{IsQuiet}
 use Rattle.node_laws.proofs.QuietTurns as quiet_law
-use Rattle.line_nodes.specs.Node.{NodeState, Pad, Host, end_of, is_pad, drained}
-use Rattle.line_nodes.specs.Turn.{told, unchanged}
-use Rattle.line_nodes.specs.Terminals.{after_terminal}
-use Rattle.line_nodes.specs.LineTurns.{expires}
-use Rattle.line_nodes.specs.declared.terminal.TerminalEvent.{TerminalEvent}
-use Rattle.line_nodes.specs.declared.terminal.TerminalEvent.TheVariants.{Key, Break, Idle, Print, Leaves, Arrives}
+use Rattle.user_nodes.specs.Node.{NodeState, Pad, Host, end_of, is_pad, drained}
+use Rattle.user_nodes.specs.Turn.{told, unchanged}
+use Rattle.user_nodes.specs.Terminals.{after_terminal}
+use Rattle.user_nodes.specs.LineTurns.{expires}
+use Rattle.user_nodes.specs.declared.terminal.TerminalEvent.{TerminalEvent}
+use Rattle.user_nodes.specs.declared.terminal.TerminalEvent.TheVariants.{Key, Break, Idle, Print, Leaves, Arrives}
 use Rattle.net_events.specs.OneLine.{LineState, node_at}
 use Rattle.net_events.specs.NodeEvents.{NodeEvent, IsFor, turn_of}
 use Rattle.net_events.specs.NodeEvents.NodeEvent.{Hears, Expires, Relinks, Restarts, Calls, Asks, Refuses, Says}

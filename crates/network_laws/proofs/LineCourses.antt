@@ -9,7 +9,7 @@ use Rattle.pad_ports.specs.Ports as port
 use Rattle.x25_pad.specs.Pad as pad
 use Rattle.x25_pad.specs.Pad.{PadState}
 use Rattle.x25_pad.specs.Making.{made}
-use Rattle.line_nodes.specs.PadWriting.{writes_of, without_notes}
+use Rattle.user_nodes.specs.PadWriting.{writes_of, without_notes}
 use Rattle.call_records.specs.Book.{Book}
 use Rattle.call_records.specs.Writes.{Write, all_written}
 use Rattle.node_laws.specs.Pads.Holds.{node_at as node_of_end}
@@ -18,12 +18,12 @@ use Rattle.node_laws.specs.Quiet.{IsQuiet}
 use Rattle.node_laws.proofs.Pads.Holding.{timer_drained, course_is}
 use Rattle.node_laws.specs.Pads.Standing.{drained}
 use Rattle.node_laws.specs.Pads.Happening.{PadEvent, HasKey, HasBreak, HasIdleTime, HasPrinting, HasLeaving, HasArrival, HasFrame, HasExpiry, HasRelink, HasRestart, HasTicks, after_event, writes_after}
-use Rattle.line_nodes.specs.Node as node
-use Rattle.line_nodes.specs.Node.{NodeState, Pad, Host, sent_out}
-use Rattle.line_nodes.specs.Turn.{Turn, told}
-use Rattle.line_nodes.specs.LineTurns.{expires}
-use Rattle.line_nodes.specs.declared.terminal.TerminalEvent.TheVariants.{Key, Break, Idle, Print, Leaves, Arrives}
-use Rattle.line_nodes.proofs.Noted.{expires_told}
+use Rattle.user_nodes.specs.Node as node
+use Rattle.user_nodes.specs.Node.{NodeState, Pad, Host, sent_out}
+use Rattle.user_nodes.specs.Turn.{Turn, told}
+use Rattle.user_nodes.specs.LineTurns.{expires}
+use Rattle.user_nodes.specs.declared.terminal.TerminalEvent.TheVariants.{Key, Break, Idle, Print, Leaves, Arrives}
+use Rattle.user_nodes.proofs.Noted.{expires_told}
 use Rattle.frame_lines.specs.Lines.{LineService}
 use Rattle.net_events.specs.OneLine.{LineState}
 use Rattle.net_events.specs.NodeEvents.{NodeEvent, Hears, Expires, Relinks, Restarts, Calls, Asks, Refuses, Says, Takes, AtTerminal, IsFor, Happened, turn_of}

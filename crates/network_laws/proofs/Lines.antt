@@ -5,8 +5,8 @@ use Rattle.link_timers.specs.declared.role.Role.TheVariants.{Dte, Dce}
 use Rattle.packet_end.specs.PacketEnd as end
 use Rattle.call_records.specs.Book.{Book}
 use Rattle.node_laws.specs.LineRecords.Kept.{Kept}
-use Rattle.node_laws.specs.Clauses.{elapsed_line}
-use Rattle.line_nodes.specs.Node.{NodeState, Pad, Host, end_of, is_pad, node_elapsed}
+use Rattle.node_laws.specs.NodeClauses.{elapsed_line}
+use Rattle.user_nodes.specs.Node.{NodeState, Pad, Host, end_of, is_pad, node_elapsed}
 use Rattle.frame_lines.specs.declared.line.Direction.{Direction}
 use Rattle.frame_lines.specs.declared.line.Direction.TheVariants.{FromDte, FromDce}
 use Rattle.frame_lines.specs.Lines.{Flights, without_first, LineService}

@@ -11,10 +11,10 @@ use Rattle.call_records.specs.Book.{made_book}
 use Rattle.record_laws.specs.Books.Headline.{BookHolds}
 use Rattle.node_laws.specs.LineRecords.Kept.{Setting, Kept}
 use Rattle.node_laws.specs.Quiet.{IsQuiet}
-use Rattle.node_laws.specs.Clauses.{first_line}
+use Rattle.node_laws.specs.NodeClauses.{first_line}
 use Rattle.x25_pad.specs.Pad.{PadState}
 use Rattle.node_laws.specs.Pads.Courses.{IsRecordOf, PadSends}
-use Rattle.line_nodes.specs.Node.{NodeState, Pad, end_of, drained, frames_of}
+use Rattle.user_nodes.specs.Node.{NodeState, Pad, end_of, drained, frames_of}
 use Rattle.frame_lines.specs.Lines.{Flights, LineService}
 use Rattle.net_events.specs.OneLine.{LineState}
 use Rattle.network_laws.specs.IsLine.{NodeHolds, line_of, IsLine}

@@ -18,8 +18,8 @@ use Rattle.call_records.proofs.Opening.{alone, stands_alone}
 use Rattle.node_laws.specs.Pads.Holds.{node_at, HasItsRecords}
 use Rattle.node_laws.specs.Pads.Courses.{Course, beginning}
 use Rattle.node_laws.specs.Pads.EventCourses.{IsElsewhere, CourseOf, starts, elsewhere}
-use Rattle.line_nodes.specs.Node as node
-use Rattle.line_nodes.specs.Node.{NodeState, Pad, sent_out}
+use Rattle.user_nodes.specs.Node as node
+use Rattle.user_nodes.specs.Node.{NodeState, Pad, sent_out}
 use Rattle.frame_lines.specs.Lines.{LineService}
 use Rattle.net_config.specs.NetPlan.{NewDte, NewPad, NewNode, NewLine, NetPlan, Planned, PlannedUser, PlannedSwitch, IsNewDte, IsEndPlan, IsKindOfLine, IsLinePlan, HasEndAt, IsPlan}
 use Rattle.net_config.specs.Plan.{StandsAlone}

@@ -8,11 +8,11 @@ use Rattle.data_transfer.specs.Traffic.{Taken}
 use Rattle.packet_layer.specs.Layer.{front_on}
 use Rattle.packet_end.specs.PacketEnd.{PacketEnd}
 use Rattle.call_records.specs.Book.{Book}
-use Rattle.line_nodes.specs.Node.{NodeState, Pad, Host, end_of, is_pad}
-use Rattle.line_nodes.specs.NodeEvents.{node_runs, expired}
-use Rattle.line_nodes.specs.Turn.{told, unchanged}
-use Rattle.line_nodes.specs.HostTurns.{host_takes, taken_turn}
-use Rattle.line_nodes.specs.LineTurns.{expires}
+use Rattle.user_nodes.specs.Node.{NodeState, Pad, Host, end_of, is_pad}
+use Rattle.user_nodes.specs.NodeEvents.{node_runs, expired}
+use Rattle.user_nodes.specs.Turn.{told, unchanged}
+use Rattle.user_nodes.specs.HostTurns.{host_takes, taken_turn}
+use Rattle.user_nodes.specs.LineTurns.{expires}
 use Rattle.net_events.specs.NodeEvents.{NodeEvent, IsFor, turn_of}
 use Rattle.net_events.specs.NodeEvents.NodeEvent.{Hears, Expires, Relinks, Restarts, Calls, Asks, Refuses, Says}
 use Rattle.net_events.specs.NodeEvents.NodeEvent.{Takes, AtTerminal}

@@ -6,7 +6,7 @@ use Rattle.std.proofs.lemmas.List.{length-set, length-map}
 use Rattle.packet_end.specs.PacketEnd.{finished}
 use Rattle.pad_ports.specs.Ports as port
 use Rattle.pad_ports.specs.Ports.{PortState, AtLine}
-use Rattle.pad_ports.specs.Line as line
+use Rattle.pad_ports.specs.PadLine as line
 use Rattle.x25_pad.specs.Pad as pad
 use Rattle.x25_pad.specs.Pad.{PadState, all_heard}
 use Rattle.data_transfer.specs.Packets.{Note}

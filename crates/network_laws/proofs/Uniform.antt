@@ -15,13 +15,13 @@ use Rattle.call_records.specs.Writes.{Write, all_written}
 use Rattle.call_records.specs.Writes.Write.{Told, Placed, Asked, Said, Took, Cleared, AllClosed}
 use Rattle.pad_ports.specs.Notes.{ChannelNote}
 use Rattle.pad_ports.specs.Notes as pad
-use Rattle.line_nodes.specs.PadWriting.{write_of, writes_of}
+use Rattle.user_nodes.specs.PadWriting.{write_of, writes_of}
 use Rattle.record_laws.specs.Registers.Giving.{GivesNone, AllGiveNone}
-use Rattle.line_nodes.specs.Node.{NodeState, Pad, Host, end_of}
-use Rattle.line_nodes.specs.NodeEvents.{heard, node_runs, expired, relinked}
-use Rattle.line_nodes.specs.Turn.{Turn, told, unchanged}
-use Rattle.line_nodes.specs.HostTurns.{taken_turn}
-use Rattle.line_nodes.specs.Terminals.{after_terminal}
+use Rattle.user_nodes.specs.Node.{NodeState, Pad, Host, end_of}
+use Rattle.user_nodes.specs.NodeEvents.{heard, node_runs, expired, relinked}
+use Rattle.user_nodes.specs.Turn.{Turn, told, unchanged}
+use Rattle.user_nodes.specs.HostTurns.{taken_turn}
+use Rattle.user_nodes.specs.Terminals.{after_terminal}
 use Rattle.net_events.specs.NodeEvents.{NodeEvent, turn_of}
 use Rattle.net_events.specs.NodeEvents.NodeEvent.{Hears, Expires, Relinks, Restarts, Calls, Asks, Refuses, Says}
 use Rattle.net_events.specs.NodeEvents.NodeEvent.{Takes, AtTerminal}

@@ -6,7 +6,7 @@ use Rattle.call_records.specs.Records.{RecordValue, PairValue}
 use Rattle.call_records.specs.Book.{address_of}
 use Rattle.call_records.specs.Register.{Register, LineEnds}
 use Rattle.record_laws.specs.Words.{HasTyped}
-use Rattle.record_laws.specs.CallPaths.Promise.{Plan, address_at, PathsHold}
+use Rattle.record_laws.specs.CallPaths.PathPromise.{Plan, address_at, PathsHold}
 
 -- a node is a PAD, a host, or a switch, which sends on a call to an address on a line, or on none
 pub data NodeKind : Type 0 where

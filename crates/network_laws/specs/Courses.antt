@@ -7,7 +7,7 @@ use Rattle.call_records.specs.Records.{RecordValue}
 use Rattle.call_records.specs.Register.{book_at}
 use Rattle.x25_pad.specs.Pad.{PadState}
 use Rattle.x25_pad.specs.declared.config.PadConfig.{PadConfig}
-use Rattle.line_nodes.specs.Node.{Pad}
+use Rattle.user_nodes.specs.Node.{Pad}
 use Rattle.frame_lines.specs.declared.line.Direction.{Direction}
 use Rattle.frame_lines.specs.Lines.{LineService}
 use Rattle.node_laws.specs.Pads.Sending.{HasSaid}
@@ -25,7 +25,7 @@ use Rattle.net_events.specs.Network.{PlacedNode, User, NetLine, Network, place_a
 use Rattle.net_events.specs.Opening.{IsMade}
 use Rattle.network_laws.specs.LineCourse.{at_pad}
 use Rattle.network_laws.specs.Switched.IsSwitched.{IsAny}
-use Rattle.network_laws.specs.Switched.Promise.{InnerPromise}
+use Rattle.network_laws.specs.Switched.InnerPromise.{InnerPromise}
 
 -- the node of a place is a PAD at the DTE's end of this line, which was made so; and the course of these events leads to
 -- it, once no frame and no note is left there, and to what the register has of the line

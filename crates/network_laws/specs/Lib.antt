@@ -3,8 +3,8 @@ pub mod IsLine
 pub mod LineLaw
 pub mod LineCourse
 pub mod CallsPromise
-pub mod Promise
+pub mod LinesPromise
 pub mod DueCount
 pub mod PlacedTime
-pub mod Rest
+pub mod NetworkRest
 pub mod Courses

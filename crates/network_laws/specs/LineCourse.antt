@@ -15,8 +15,8 @@ use Rattle.node_laws.specs.Pads.Courses.{Happening, Here, There, Course, happene
 use Rattle.node_laws.specs.Pads.Standing.{drained}
 use Rattle.node_laws.specs.Pads.Happening.{PadEvent, HasKey, HasBreak, HasIdleTime, HasPrinting, HasLeaving, HasArrival}
 use Rattle.node_laws.specs.Pads.Happening.{HasFrame, HasExpiry, HasRelink, HasRestart, HasTicks}
-use Rattle.line_nodes.specs.Node.{Pad}
-use Rattle.line_nodes.specs.declared.terminal.TerminalEvent.TheVariants.{Key, Break, Idle, Print, Leaves, Arrives}
+use Rattle.user_nodes.specs.Node.{Pad}
+use Rattle.user_nodes.specs.declared.terminal.TerminalEvent.TheVariants.{Key, Break, Idle, Print, Leaves, Arrives}
 use Rattle.frame_lines.specs.Lines.{Flights, LineService}
 use Rattle.net_events.specs.OneLine.{LineState}
 use Rattle.net_events.specs.NodeEvents.{NodeEvent, Hears, Expires, Relinks, Restarts, AtTerminal, Happened, turn_of}

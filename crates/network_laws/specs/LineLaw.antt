@@ -8,7 +8,7 @@ use Rattle.call_records.specs.Book.{made_book}
 use Rattle.record_laws.specs.Books.Headline.{BookHolds}
 use Rattle.x25_pad.specs.Pad.{PadState}
 use Rattle.node_laws.specs.Pads.Courses.{PadSends}
-use Rattle.line_nodes.specs.Node.{Pad, drained, node_elapsed}
+use Rattle.user_nodes.specs.Node.{Pad, drained, node_elapsed}
 use Rattle.frame_lines.specs.declared.line.Direction.{Direction}
 use Rattle.frame_lines.specs.Lines.{Flights, without_first, LineService}
 use Rattle.net_events.specs.OneLine.{LineState}

@@ -1,7 +1,7 @@
 pub mod Plans
 pub mod IsSwitched
 pub mod Histories
-pub mod Promise
-pub mod Rest
+pub mod InnerPromise
+pub mod SwitchedRest
 pub mod Laws
 pub mod Idle

@@ -13,7 +13,7 @@ use Rattle.data_transfer.specs.Flow.{IsFlow, is_size, most_window}
 use Rattle.packet_end.specs.Params.{AreParams, info_of}
 use Rattle.packet_end.specs.declared.params.EndParams.{EndParams}
 use Rattle.frame_codec.specs.Spelling.{most_information}
-use Rattle.line_nodes.specs.Node.{frames_of}
+use Rattle.user_nodes.specs.Node.{frames_of}
 use Rattle.frame_lines.specs.declared.line.Direction.TheVariants.{FromDte, FromDce}
 use Rattle.frame_lines.specs.Lines.{Flights, lossless_service, no_flights}
 use Rattle.net_config.specs.NetPlan.{NewDte, NewPad, NewHost, NewLine, NewSwitch, NetPlan, Planned, PlannedUser, PlannedSwitch, switch_places}

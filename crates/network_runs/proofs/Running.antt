@@ -10,7 +10,7 @@ use Rattle.net_events.specs.Network.{User, Switching, Network}
 use Rattle.net_events.specs.Opening.{IsMade}
 use Rattle.net_config.specs.NetPlan.{IsPlan}
 use Rattle.network_laws.specs.Switched.IsSwitched.{IsAny}
-use Rattle.network_laws.specs.Switched.Rest.{AreAllAtRest}
+use Rattle.network_laws.specs.Switched.SwitchedRest.{AreAllAtRest}
 use Rattle.network_laws.proofs.Switched.MadeHeld.{made_any}
 use Rattle.network_laws.proofs.Switched.PromiseAny.{promise_any}
 use Rattle.network_laws.proofs.Switched.RestAny.{rest_any}

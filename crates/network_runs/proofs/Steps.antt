@@ -9,8 +9,8 @@ use Rattle.link_timers.specs.declared.role.Role.{Role}
 use Rattle.link_timers.specs.declared.role.Role.TheVariants.{Dte, Dce}
 use Rattle.packet_laws.specs.Readable.{AreOctets}
 use Rattle.packet_codec.specs.Address.{are_decimal, AreDigits}
-use Rattle.line_nodes.specs.Node.{NodeState, Pad, Host, is_pad, frames_of}
-use Rattle.line_nodes.specs.Terminals.{HasTerminal}
+use Rattle.user_nodes.specs.Node.{NodeState, Pad, Host, is_pad, frames_of}
+use Rattle.user_nodes.specs.Terminals.{HasTerminal}
 use Rattle.frame_lines.specs.declared.line.Direction.{Direction}
 use Rattle.frame_lines.specs.declared.line.Direction.TheVariants.{FromDte, FromDce}
 use Rattle.frame_lines.specs.Lines.{Flights, lossless_service, flying, with_flying, without_first, ArePut}

@@ -11,7 +11,7 @@ use Rattle.address_routes.specs.Routes.{line_for}
 use Rattle.data_transfer.specs.Packets.{CallParts}
 use Rattle.data_transfer.specs.Packets.Note.{Incoming}
 use Rattle.packet_end.specs.PacketEnd.{received}
-use Rattle.line_nodes.specs.Node.{NodeState, Pad, Host, is_pad, frames_of}
+use Rattle.user_nodes.specs.Node.{NodeState, Pad, Host, is_pad, frames_of}
 use Rattle.frame_lines.specs.declared.line.Direction.{Direction}
 use Rattle.frame_lines.specs.Lines.{Flights, lossless_service, no_flights, flying, with_flying, without_first}
 use Rattle.switch_joins.specs.declared.channels.SwitchChannel.{SwitchChannel}

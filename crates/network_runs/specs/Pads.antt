@@ -18,10 +18,10 @@ use Rattle.packet_channel.specs.Channel.Request.{Accept, Resetting}
 use Rattle.packet_end.specs.declared.params.EndParams.{EndParams}
 use Rattle.call_records.specs.Records.{RecordValue, new_record, with_closed}
 use Rattle.frame_lines.specs.declared.line.Direction.TheVariants.{FromDte}
-use Rattle.line_nodes.specs.Node.{NodeState, Pad, Host}
-use Rattle.line_nodes.specs.Terminals.{text_shown}
-use Rattle.line_nodes.specs.declared.terminal.TerminalEvent.{TerminalEvent}
-use Rattle.line_nodes.specs.declared.terminal.TerminalEvent.TheVariants.{Key, Break, Print}
+use Rattle.user_nodes.specs.Node.{NodeState, Pad, Host}
+use Rattle.user_nodes.specs.Terminals.{text_shown}
+use Rattle.user_nodes.specs.declared.terminal.TerminalEvent.{TerminalEvent}
+use Rattle.user_nodes.specs.declared.terminal.TerminalEvent.TheVariants.{Key, Break, Print}
 use Rattle.net_events.specs.NodeEvents.{Expires, Asks, Says, Takes, AtTerminal}
 use Rattle.net_events.specs.Network.{NetNode, User, Switching, Network}
 use Rattle.net_config.specs.NetPlan.{NetPlan, NewPad, NewHost, PlannedUser}

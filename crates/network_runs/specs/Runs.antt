@@ -9,16 +9,16 @@ use Rattle.epochs.specs.Item.{DataPacket}
 use Rattle.packet_layer.specs.Layer.{confirmed}
 use Rattle.packet_end.specs.declared.params.EndParams.{EndParams}
 use Rattle.call_records.specs.Records.{PairValue, HopValue}
-use Rattle.line_nodes.specs.Node.{end_of, node_rests}
+use Rattle.user_nodes.specs.Node.{end_of, node_rests}
 use Rattle.frame_lines.specs.Lines.{Flights, lossless_service}
 use Rattle.switch_lines.specs.Switch.{switch_rests}
 use Rattle.net_config.specs.NetPlan.{NetPlan, NewLine, NewHost, Planned, PlannedUser, IsPlan}
 use Rattle.net_events.specs.Network.{NetNode, User, Switching, Network}
 use Rattle.net_events.specs.Opening.{IsMade}
-use Rattle.network_laws.specs.Rest.{MissesNothing}
+use Rattle.network_laws.specs.NetworkRest.{MissesNothing}
 use Rattle.network_laws.specs.Switched.IsSwitched.{IsAny}
-use Rattle.network_laws.specs.Switched.Promise.{NetworkPromise}
-use Rattle.network_laws.specs.Switched.Rest.{AreAllAtRest}
+use Rattle.network_laws.specs.Switched.InnerPromise.{NetworkPromise}
+use Rattle.network_laws.specs.Switched.SwitchedRest.{AreAllAtRest}
 use Rattle.network_runs.specs.Acting.{Act, AtNode, AtSwitch, Arrives, Calling, IsLost}
 use Rattle.network_runs.specs.Acting.{Incomer, acted, Goes, IsCalling}
 use Rattle.network_runs.specs.Making.{is_plan, network_of}

@@ -10,20 +10,20 @@ use Rattle.data_transfer.specs.Traffic.Taken.{TakenInterrupt, TakenPacket}
 use Rattle.packet_layer.specs.Layer.{channel_given, front_on}
 use Rattle.packet_laws.specs.Readable.{CanBePlaced}
 use Rattle.packet_end.specs.PacketEnd.{PacketEnd}
-use Rattle.node_laws.specs.Lines.Line.{Line}
+use Rattle.node_laws.specs.Lines.NodeLine.{Line}
 use Rattle.packet_host.specs.Host.{call_parts, after_call, after_request, after_refuse, after_say, after_take}
 use Rattle.packet_host.specs.Saying.{message, say_refusal}
 use Rattle.call_records.specs.Book.{Book, sends, takes, releases}
 use Rattle.call_records.specs.Carried.{unless_refused, placed_on}
 use Rattle.node_laws.specs.LineRecords.Kept.{end_at, coming_to}
-use Rattle.node_laws.specs.LineRecords.Clauses.{requested_at}
+use Rattle.node_laws.specs.LineRecords.LineRecordClauses.{requested_at}
 use Rattle.node_laws.specs.LineRecords.Hosts.{IsKeptAfter, sends_all, refuses, takes_any}
 use Rattle.node_laws.proofs.LineRecords.Hosting.{call_kept, request_kept, refuse_kept, say_kept, take_kept}
-use Rattle.line_nodes.specs.Node.{Host}
-use Rattle.line_nodes.specs.Turn.{all_sent}
-use Rattle.line_nodes.specs.HostTurns.{host_calls, host_asks, host_refuses, host_says, host_takes, taken_turn}
+use Rattle.user_nodes.specs.Node.{Host}
+use Rattle.user_nodes.specs.Turn.{all_sent}
+use Rattle.user_nodes.specs.HostTurns.{host_calls, host_asks, host_refuses, host_says, host_takes, taken_turn}
 use Rattle.node_laws.specs.Nodes.{StandsAt, KeepsBy}
-use Rattle.node_laws.specs.Clauses.{CallsLaw, AsksLaw, RefusesLaw, SaysLaw, TakesLaw}
+use Rattle.node_laws.specs.NodeClauses.{CallsLaw, AsksLaw, RefusesLaw, SaysLaw, TakesLaw}
 use Rattle.node_laws.proofs.Turning.{told_keeps, unchanged_keeps}
 
 -- a host at the end is as good as the end itself

@@ -8,10 +8,10 @@ use Rattle.x25_pad.specs.Pad as pad
 use Rattle.x25_pad.specs.Pad.{PadState}
 use Rattle.node_laws.proofs.Pads.Expiring as pad_law
 use Rattle.call_records.specs.Book.{Book}
-use Rattle.line_nodes.specs.Node.{NodeState, Pad, Host, drained, node_due}
-use Rattle.line_nodes.specs.Turn.{unchanged, told}
-use Rattle.line_nodes.specs.LineTurns.{expires}
-use Rattle.line_nodes.proofs.Noted.{timer_stays}
+use Rattle.user_nodes.specs.Node.{NodeState, Pad, Host, drained, node_due}
+use Rattle.user_nodes.specs.Turn.{unchanged, told}
+use Rattle.user_nodes.specs.LineTurns.{expires}
+use Rattle.user_nodes.proofs.Noted.{timer_stays}
 use Rattle.node_laws.specs.Due.{due_count}
 use Rattle.node_laws.specs.Quiet.{IsQuiet}
 use Rattle.node_laws.proofs.LineRecords.DueEnds.{no-more-due, finished-due, IsFewer, due-expires}

@@ -6,7 +6,7 @@ use Rattle.link_timers.specs.declared.role.Role.TheVariants.{Dte, Dce}
 use Rattle.link_timers.specs.Role.{other_of}
 use Rattle.packet_end.specs.PacketEnd as end
 use Rattle.packet_end.specs.PacketEnd.{PacketEnd, begun, after_timer, finished, runs_at}
-use Rattle.node_laws.specs.Lines.Line.{Line}
+use Rattle.node_laws.specs.Lines.NodeLine.{Line}
 use Rattle.node_laws.proofs.Lines.Finishing.{none_waits}
 use Rattle.packet_host.specs.Host as host
 use Rattle.x25_pad.specs.Pad as pad
@@ -17,15 +17,15 @@ use Rattle.call_records.specs.Book.{Book}
 use Rattle.node_laws.specs.LineRecords.Kept.{Setting, Kept, end_at, coming_to}
 use Rattle.node_laws.specs.LineRecords.Happens.{sent, with_restart}
 use Rattle.node_laws.proofs.LineRecords.WholeEvents.{frame_kept, expiry_kept, relink_kept, restarted_kept}
-use Rattle.line_nodes.specs.Node.{NodeState, Pad, Host, end_of, drained}
-use Rattle.line_nodes.specs.Turn.{unchanged, told}
-use Rattle.line_nodes.specs.Terminals.{after_terminal}
-use Rattle.line_nodes.specs.LineTurns.{hears, relinks}
-use Rattle.line_nodes.specs.NodeEvents.{restarted}
-use Rattle.line_nodes.specs.declared.terminal.TerminalEvent.{TerminalEvent}
-use Rattle.line_nodes.specs.declared.terminal.TerminalEvent.TheVariants.{Key, Break, Idle, Print, Leaves, Arrives}
+use Rattle.user_nodes.specs.Node.{NodeState, Pad, Host, end_of, drained}
+use Rattle.user_nodes.specs.Turn.{unchanged, told}
+use Rattle.user_nodes.specs.Terminals.{after_terminal}
+use Rattle.user_nodes.specs.LineTurns.{hears, relinks}
+use Rattle.user_nodes.specs.NodeEvents.{restarted}
+use Rattle.user_nodes.specs.declared.terminal.TerminalEvent.{TerminalEvent}
+use Rattle.user_nodes.specs.declared.terminal.TerminalEvent.TheVariants.{Key, Break, Idle, Print, Leaves, Arrives}
 use Rattle.node_laws.specs.Nodes.{IsNode, StandsAt, KeepsWith, KeepsBy}
-use Rattle.node_laws.specs.Clauses.{HearsLaw, ExpiresLaw, RelinksLaw, RestartsLaw, TerminalsLaw}
+use Rattle.node_laws.specs.NodeClauses.{HearsLaw, ExpiresLaw, RelinksLaw, RestartsLaw, TerminalsLaw}
 use Rattle.node_laws.proofs.Turning.{told_keeps, unchanged_keeps, pad_stands, noted_keeps}
 
 -- ---- the laws

@@ -5,14 +5,14 @@ use Rattle.link_timers.specs.declared.role.Role.{Role}
 use Rattle.link_timers.specs.declared.role.Role.TheVariants.{Dte, Dce}
 use Rattle.packet_end.specs.PacketEnd as end
 use Rattle.packet_end.specs.PacketEnd.{PacketEnd}
-use Rattle.node_laws.specs.Lines.Line.{At, Sends, Elapses, happens, made}
+use Rattle.node_laws.specs.Lines.NodeLine.{At, Sends, Elapses, happens, made}
 use Rattle.call_records.specs.Book.{Book, made_book}
 use Rattle.node_laws.specs.LineRecords.Kept.{Setting, Kept}
 use Rattle.node_laws.specs.LineRecords.Happens.{sent}
 use Rattle.node_laws.proofs.LineRecords.LineLaw.{made_kept, silent_kept}
-use Rattle.line_nodes.specs.Node.{NodeState, Pad, Host, end_of, drained, node_elapsed}
+use Rattle.user_nodes.specs.Node.{NodeState, Pad, Host, end_of, drained, node_elapsed}
 use Rattle.node_laws.specs.Nodes.{IsNode, StandsAt}
-use Rattle.node_laws.specs.Clauses.{elapsed_line, ElapsesLaw, first_line, MakingLaw, NodesLaw}
+use Rattle.node_laws.specs.NodeClauses.{elapsed_line, ElapsesLaw, first_line, MakingLaw, NodesLaw}
 
 -- ---- time
 

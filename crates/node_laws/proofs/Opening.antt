@@ -12,9 +12,9 @@ use Rattle.packet_host.specs.Saying.{message, queued, say_refusal}
 use Rattle.x25_pad.specs.Pad as pad
 use Rattle.call_records.specs.Room.{opening_notes}
 use Rattle.node_laws.proofs.LineRecords.Opening.{frame_opens, expiry_opens, relink_opens, end_opens, read_kept}
-use Rattle.line_nodes.specs.Node.{Pad, Host}
-use Rattle.line_nodes.specs.Turn.{unchanged, told}
-use Rattle.line_nodes.specs.HostTurns.{taken_turn}
+use Rattle.user_nodes.specs.Node.{Pad, Host}
+use Rattle.user_nodes.specs.Turn.{unchanged, told}
+use Rattle.user_nodes.specs.HostTurns.{taken_turn}
 use Rattle.node_laws.specs.Opening.{OpensNothing, HearingOpens, ExpiryOpens, RelinkOpens, CallOpens, AskingOpens, RefusalOpens, SayingOpens, TakingOpens}
 
 -- ---- what comes from the line

@@ -12,12 +12,12 @@ use Rattle.x25_pad.specs.Pad as pad
 use Rattle.call_records.specs.Book.{Book}
 use Rattle.call_records.specs.Room.{opening_notes}
 use Rattle.node_laws.proofs.LineRecords.Opening.{expiry_opens}
-use Rattle.line_nodes.specs.Node.{NodeState, Pad, Host}
-use Rattle.line_nodes.specs.Turn.{Turn, unchanged, told}
-use Rattle.line_nodes.specs.Terminals.{at_terminal}
-use Rattle.line_nodes.specs.LineTurns.{hears, expires, relinks, restarts}
-use Rattle.line_nodes.specs.HostTurns.{host_calls, host_asks, host_refuses, host_says, host_takes}
-use Rattle.line_nodes.specs.declared.terminal.TerminalEvent.{TerminalEvent}
+use Rattle.user_nodes.specs.Node.{NodeState, Pad, Host}
+use Rattle.user_nodes.specs.Turn.{Turn, unchanged, told}
+use Rattle.user_nodes.specs.Terminals.{at_terminal}
+use Rattle.user_nodes.specs.LineTurns.{hears, expires, relinks, restarts}
+use Rattle.user_nodes.specs.HostTurns.{host_calls, host_asks, host_refuses, host_says, host_takes}
+use Rattle.user_nodes.specs.declared.terminal.TerminalEvent.{TerminalEvent}
 use Rattle.node_laws.specs.Opening.{OpensNothing}
 use Rattle.node_laws.specs.Quiet.{IsQuiet, OpensOneAtMost}
 use Rattle.node_laws.proofs.Opening.{hearing_opens, relink_opens_none, call_opens, asking_opens, refusal_opens, saying_opens, taking_opens}

@@ -14,7 +14,7 @@ use Rattle.packet_end.specs.PacketEnd.{PacketEnd, begun, received, runs_at, afte
 use Rattle.packet_host.specs.Host as host
 use Rattle.packet_host.specs.Making as host_making
 use Rattle.packet_host.specs.declared.config.HostConfig.{HostConfig}
-use Rattle.pad_ports.specs.Line.{last_incoming}
+use Rattle.pad_ports.specs.PadLine.{last_incoming}
 use Rattle.pad_ports.specs.Ports as port
 use Rattle.pad_ports.specs.Ports.{AtLine}
 use Rattle.x25_pad.specs.Pad as pad
@@ -22,14 +22,14 @@ use Rattle.x25_pad.specs.Pad.{PadState}
 use Rattle.x25_pad.specs.Making as pad_making
 use Rattle.x25_pad.specs.declared.config.PadConfig.{PadConfig}
 use Rattle.call_records.specs.Book.{Book}
-use Rattle.line_nodes.specs.Node.{NodeState, Pad, Host, end_of, drained, node_elapsed}
-use Rattle.line_nodes.specs.Turn.{Turn, unchanged, told}
-use Rattle.line_nodes.specs.Terminals.{after_terminal, at_terminal}
-use Rattle.line_nodes.specs.LineTurns.{hears, expires, relinks, restarts}
-use Rattle.line_nodes.specs.HostTurns.{host_calls, host_asks, host_refuses, host_says, host_takes, taken_turn}
-use Rattle.line_nodes.specs.declared.terminal.TerminalEvent.{TerminalEvent}
-use Rattle.line_nodes.specs.declared.terminal.TerminalEvent.TheVariants as event
-use Rattle.line_nodes.specs.declared.terminal.TerminalEvent.TheVariants.{Key, Break, Print, Leaves, Arrives}
+use Rattle.user_nodes.specs.Node.{NodeState, Pad, Host, end_of, drained, node_elapsed}
+use Rattle.user_nodes.specs.Turn.{Turn, unchanged, told}
+use Rattle.user_nodes.specs.Terminals.{after_terminal, at_terminal}
+use Rattle.user_nodes.specs.LineTurns.{hears, expires, relinks, restarts}
+use Rattle.user_nodes.specs.HostTurns.{host_calls, host_asks, host_refuses, host_says, host_takes, taken_turn}
+use Rattle.user_nodes.specs.declared.terminal.TerminalEvent.{TerminalEvent}
+use Rattle.user_nodes.specs.declared.terminal.TerminalEvent.TheVariants as event
+use Rattle.user_nodes.specs.declared.terminal.TerminalEvent.TheVariants.{Key, Break, Print, Leaves, Arrives}
 use Rattle.node_laws.specs.Quiet.{IsQuiet, LeavesQuiet}
 use Rattle.node_laws.proofs.QuietEnds.{IsUnread, received_unread, timer_unread, finished_unread, asked_unread, called_unread, calls_unread, asks_unread, refuses_unread, says_unread, takes_unread}
 use Rattle.node_laws.proofs.LineRecords.Relinking.{AsksNone, finished_asks, calls_ask, requests_ask, refuses_ask, says_ask, takes_ask, expiry_asks}

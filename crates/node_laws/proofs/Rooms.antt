@@ -6,8 +6,8 @@ use Rattle.packet_host.specs.Host as host
 use Rattle.call_records.specs.Room.{opening_notes}
 use Rattle.node_laws.proofs.LineRecords.Opening.{frame_opens, expiry_opens, relink_opens}
 use Rattle.node_laws.proofs.Pads.Rooms as pad_law
-use Rattle.line_nodes.specs.Node.{Pad, Host}
-use Rattle.line_nodes.specs.declared.terminal.TerminalEvent.TheVariants.{Key, Break, Idle, Print, Leaves, Arrives}
+use Rattle.user_nodes.specs.Node.{Pad, Host}
+use Rattle.user_nodes.specs.declared.terminal.TerminalEvent.TheVariants.{Key, Break, Idle, Print, Leaves, Arrives}
 use Rattle.node_laws.specs.Rooms.{NeedsTwoAtMost, HearingRoom, ExpiryRoom, RelinkRoom, RestartRoom, TerminalRoom}
 
 -- a host whose notes open one thing at most

@@ -6,13 +6,13 @@ use Rattle.link_timers.specs.declared.role.Role.TheVariants.{Dte, Dce}
 use Rattle.link_timers.specs.Role.{other_of}
 use Rattle.lapb.specs.Machine.{Octets}
 use Rattle.packet_end.specs.PacketEnd.{PacketEnd}
-use Rattle.node_laws.specs.Lines.Line.{Line, Sends}
+use Rattle.node_laws.specs.Lines.NodeLine.{Line, Sends}
 use Rattle.call_records.specs.Book.{Book, all_told}
 use Rattle.node_laws.specs.LineRecords.Kept.{Setting, Kept, end_at, coming_to}
 use Rattle.node_laws.specs.LineRecords.Happens.{with_event}
 use Rattle.node_laws.proofs.LineRecords.LineLaw.{silent_kept, like_kept}
-use Rattle.line_nodes.specs.Node.{NodeState, Pad, Host, end_of, drained, all_read, without_notes}
-use Rattle.line_nodes.specs.Turn.{unchanged, told}
+use Rattle.user_nodes.specs.Node.{NodeState, Pad, Host, end_of, drained, all_read, without_notes}
+use Rattle.user_nodes.specs.Turn.{unchanged, told}
 use Rattle.x25_pad.specs.Pad.{PadState}
 use Rattle.node_laws.specs.Pads.Standing as pad
 use Rattle.node_laws.specs.Nodes.{IsNode, StandsAt, KeepsWith, KeepsBy}

@@ -2,7 +2,7 @@
 use Rattle.std.specs.Prelude.{ℕ}
 use Rattle.node_laws.specs.LineRecords.Due as end
 use Rattle.node_laws.specs.Pads.Expiry as pad
-use Rattle.line_nodes.specs.Node.{NodeState, Pad, Host}
+use Rattle.user_nodes.specs.Node.{NodeState, Pad, Host}
 
 -- how many timers run with no tick left, at a PAD those of its terminals among them
 abbrev pub due_count : NodeState → ℕ

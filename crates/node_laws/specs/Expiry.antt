@@ -3,8 +3,8 @@ use Rattle.std.specs.Prelude.{◌≡◌, ◌<◌, Some}
 use Rattle.link_timers.specs.declared.role.Role.{Role}
 use Rattle.link_timers.specs.declared.timers.TimerId.{TimerId}
 use Rattle.call_records.specs.Book.{Book}
-use Rattle.line_nodes.specs.Node.{NodeState, drained, node_due}
-use Rattle.line_nodes.specs.LineTurns.{expires}
+use Rattle.user_nodes.specs.Node.{NodeState, drained, node_due}
+use Rattle.user_nodes.specs.LineTurns.{expires}
 use Rattle.node_laws.specs.Due.{due_count}
 use Rattle.node_laws.specs.Quiet.{IsQuiet}
 

@@ -2,7 +2,7 @@ pub mod Lines
 pub mod LineRecords
 pub mod Pads
 pub mod Nodes
-pub mod Clauses
+pub mod NodeClauses
 pub mod Opening
 pub mod Due
 pub mod Quiet

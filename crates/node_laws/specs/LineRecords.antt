@@ -1,10 +1,10 @@
 pub mod Kept
-pub mod Clauses
+pub mod LineRecordClauses
 pub mod Happens
 pub mod Hosts
 pub mod Opening
 pub mod Due
-pub mod Rest
+pub mod LineRecordsRest
 pub mod Confirmed
 pub mod Counted
 pub mod Histories

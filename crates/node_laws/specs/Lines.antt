@@ -1,7 +1,7 @@
-pub mod Line
+pub mod NodeLine
 pub mod Events
 pub mod Fit
 pub mod Joint
 pub mod Steps
-pub mod Law
-pub mod Rest
+pub mod LineLaw
+pub mod LineRest

@@ -3,11 +3,11 @@ use Rattle.std.specs.Prelude.{◌≡◌, Bool, List, []}
 use Rattle.link_timers.specs.declared.role.Role.{Role}
 use Rattle.link_timers.specs.Role.{other_of}
 use Rattle.lapb.specs.Machine.{Octets}
-use Rattle.node_laws.specs.Lines.Line.{Line}
+use Rattle.node_laws.specs.Lines.NodeLine.{Line}
 use Rattle.node_laws.specs.LineRecords.Kept.{Setting, Kept, end_at, coming_to}
 use Rattle.node_laws.specs.LineRecords.Happens.{with_event}
-use Rattle.line_nodes.specs.Node.{NodeState, end_of, pad_notes, drained}
-use Rattle.line_nodes.specs.Turn.{Turn}
+use Rattle.user_nodes.specs.Node.{NodeState, end_of, pad_notes, drained}
+use Rattle.user_nodes.specs.Turn.{Turn}
 
 -- ---- between events
 

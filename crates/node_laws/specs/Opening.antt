@@ -7,14 +7,14 @@ use Rattle.lapb.specs.Machine.{Octets}
 use Rattle.data_transfer.specs.Packets.{CallParts}
 use Rattle.packet_channel.specs.Channel.{Request}
 use Rattle.packet_end.specs.PacketEnd.{PacketEnd}
-use Rattle.node_laws.specs.Lines.Line.{Line}
+use Rattle.node_laws.specs.Lines.NodeLine.{Line}
 use Rattle.call_records.specs.Book.{Book}
 use Rattle.call_records.specs.Room.{opening_notes}
 use Rattle.node_laws.specs.LineRecords.Kept.{Setting, Kept}
-use Rattle.line_nodes.specs.Node.{NodeState, Host}
-use Rattle.line_nodes.specs.Turn.{Turn}
-use Rattle.line_nodes.specs.LineTurns.{hears, expires, relinks}
-use Rattle.line_nodes.specs.HostTurns.{host_calls, host_asks, host_refuses, host_says, host_takes}
+use Rattle.user_nodes.specs.Node.{NodeState, Host}
+use Rattle.user_nodes.specs.Turn.{Turn}
+use Rattle.user_nodes.specs.LineTurns.{hears, expires, relinks}
+use Rattle.user_nodes.specs.HostTurns.{host_calls, host_asks, host_refuses, host_says, host_takes}
 use Rattle.node_laws.specs.Nodes.{IsNode, StandsAt}
 
 abbrev pub OpensNothing : Turn → Type 0

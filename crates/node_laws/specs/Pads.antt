@@ -1,5 +1,5 @@
 pub mod Standing
-pub mod Clauses
+pub mod PadClauses
 pub mod Occasions
 pub mod Sending
 pub mod Holds

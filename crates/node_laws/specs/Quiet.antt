@@ -13,12 +13,12 @@ use Rattle.x25_pad.specs.Making as pad
 use Rattle.x25_pad.specs.declared.config.PadConfig.{PadConfig}
 use Rattle.call_records.specs.Book.{Book}
 use Rattle.call_records.specs.Room.{opening_notes}
-use Rattle.line_nodes.specs.Node.{NodeState, Pad, Host, end_of, drained, node_elapsed}
-use Rattle.line_nodes.specs.Turn.{Turn}
-use Rattle.line_nodes.specs.LineTurns.{hears, expires, relinks, restarts}
-use Rattle.line_nodes.specs.HostTurns.{host_calls, host_asks, host_refuses, host_says, host_takes}
-use Rattle.line_nodes.specs.Terminals.{at_terminal}
-use Rattle.line_nodes.specs.declared.terminal.TerminalEvent.{TerminalEvent}
+use Rattle.user_nodes.specs.Node.{NodeState, Pad, Host, end_of, drained, node_elapsed}
+use Rattle.user_nodes.specs.Turn.{Turn}
+use Rattle.user_nodes.specs.LineTurns.{hears, expires, relinks, restarts}
+use Rattle.user_nodes.specs.HostTurns.{host_calls, host_asks, host_refuses, host_says, host_takes}
+use Rattle.user_nodes.specs.Terminals.{at_terminal}
+use Rattle.user_nodes.specs.declared.terminal.TerminalEvent.{TerminalEvent}
 use Rattle.node_laws.specs.Nodes.{IsNode}
 use Rattle.node_laws.specs.Opening.{OpensNothing}
 

@@ -3,11 +3,11 @@ use Rattle.std.specs.Prelude.{ℕ, ◌≤◌}
 use Rattle.link_timers.specs.declared.timers.TimerId.{TimerId}
 use Rattle.lapb.specs.Machine.{Octets}
 use Rattle.x25_pad.specs.Pad.{PadState}
-use Rattle.line_nodes.specs.Node.{NodeState, Pad}
-use Rattle.line_nodes.specs.NodeEvents.{heard, expired, relinked, restarted}
-use Rattle.line_nodes.specs.Terminals.{after_terminal}
-use Rattle.line_nodes.specs.Writing.{IsRoomFor}
-use Rattle.line_nodes.specs.declared.terminal.TerminalEvent.{TerminalEvent}
+use Rattle.user_nodes.specs.Node.{NodeState, Pad}
+use Rattle.user_nodes.specs.NodeEvents.{heard, expired, relinked, restarted}
+use Rattle.user_nodes.specs.Terminals.{after_terminal}
+use Rattle.user_nodes.specs.Writing.{IsRoomFor}
+use Rattle.user_nodes.specs.declared.terminal.TerminalEvent.{TerminalEvent}
 use Rattle.node_laws.specs.Quiet.{IsQuiet}
 
 -- room for two writes and for a pair is enough

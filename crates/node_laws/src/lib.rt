@@ -8,8 +8,8 @@ mod line_record;
 mod pad;
 mod quiet;
 
-ghost use Rattle.node_laws.specs.Clauses.{HearsLaw, ExpiresLaw, RelinksLaw, RestartsLaw, CallsLaw, AsksLaw, RefusesLaw};
-ghost use Rattle.node_laws.specs.Clauses.{SaysLaw, TakesLaw, TerminalsLaw, ElapsesLaw, MakingLaw, NodesLaw};
+ghost use Rattle.node_laws.specs.NodeClauses.{HearsLaw, ExpiresLaw, RelinksLaw, RestartsLaw, CallsLaw, AsksLaw, RefusesLaw};
+ghost use Rattle.node_laws.specs.NodeClauses.{SaysLaw, TakesLaw, TerminalsLaw, ElapsesLaw, MakingLaw, NodesLaw};
 ghost use Rattle.node_laws.specs.Opening.{HearingOpens, ExpiryOpens, RelinkOpens, CallOpens, AskingOpens, RefusalOpens};
 ghost use Rattle.node_laws.specs.Opening.{SayingOpens, TakingOpens};
 ghost use Rattle.node_laws.specs.Rooms.{HearingRoom, ExpiryRoom, RelinkRoom, RestartRoom, TerminalRoom};

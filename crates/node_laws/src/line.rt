@@ -1,7 +1,7 @@
 //! What passes between the two ends of a line over frames that may be lost: the link and the packet layer of each end
 //! together.
-ghost use Rattle.node_laws.specs.Lines.Law.{LineEndsLaw, ActLaw, LossLaw};
-ghost use Rattle.node_laws.specs.Lines.Rest.{RestLaw};
+ghost use Rattle.node_laws.specs.Lines.LineLaw.{LineEndsLaw, ActLaw, LossLaw};
+ghost use Rattle.node_laws.specs.Lines.LineRest.{RestLaw};
 
 /// The law of a line with both its ends, over definitions alone. It holds whatever is called at the ends, whatever
 /// timers expire, whichever frames are lost and however often an end restarts. The two packet layers go through what

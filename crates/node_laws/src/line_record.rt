@@ -1,8 +1,8 @@
 //! What a network keeps of a line with both its ends and of the book of its calls, and that whatever happens keeps it.
-ghost use Rattle.node_laws.specs.LineRecords.Clauses.{MadeLaw, TellsLaw, SilentLaw, RestartLaw, CallLaw, RequestLaw};
-ghost use Rattle.node_laws.specs.LineRecords.Clauses.{LossLaw, EditLaw, LikeLaw, HoldsLaw, PresentLaw, TransferLaw};
-ghost use Rattle.node_laws.specs.LineRecords.Clauses.{AskedLaw, FrontLaw, ChannelsLaw, ClosingLaw};
-ghost use Rattle.node_laws.specs.LineRecords.Rest.{RestLaw, SettledLaw};
+ghost use Rattle.node_laws.specs.LineRecords.LineRecordClauses.{MadeLaw, TellsLaw, SilentLaw, RestartLaw, CallLaw, RequestLaw};
+ghost use Rattle.node_laws.specs.LineRecords.LineRecordClauses.{LossLaw, EditLaw, LikeLaw, HoldsLaw, PresentLaw, TransferLaw};
+ghost use Rattle.node_laws.specs.LineRecords.LineRecordClauses.{AskedLaw, FrontLaw, ChannelsLaw, ClosingLaw};
+ghost use Rattle.node_laws.specs.LineRecords.LineRecordsRest.{RestLaw, SettledLaw};
 ghost use Rattle.node_laws.specs.LineRecords.Confirmed.{ConfirmedLaw};
 ghost use Rattle.node_laws.specs.LineRecords.Counted.{ShownLaw, CountsLaw};
 ghost use Rattle.node_laws.specs.LineRecords.Histories.{HistoryLaw};

@@ -7,8 +7,8 @@ mod presence;
 mod room;
 mod sending;
 
-ghost use Rattle.node_laws.specs.Pads.Clauses.{KeyLaw, BreakLaw, IdleLaw, PrintLaw, LeavingLaw, ArrivalLaw};
-ghost use Rattle.node_laws.specs.Pads.Clauses.{FrameLaw, TimerLaw, RelinkLaw, RestartLaw, TimeLaw, MakingLaw};
+ghost use Rattle.node_laws.specs.Pads.PadClauses.{KeyLaw, BreakLaw, IdleLaw, PrintLaw, LeavingLaw, ArrivalLaw};
+ghost use Rattle.node_laws.specs.Pads.PadClauses.{FrameLaw, TimerLaw, RelinkLaw, RestartLaw, TimeLaw, MakingLaw};
 
 pub use expiry::pad_expiry_law;
 pub use occasions::{event_course_law, occasion_law, typed_law};

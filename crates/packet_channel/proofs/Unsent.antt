@@ -6,14 +6,14 @@ use Rattle.data_transfer.specs.Packets.{Body}
 use Rattle.data_transfer.specs.Traffic.{says}
 use Rattle.data_transfer.specs.declared.flow.Flow.{Flow}
 use Rattle.data_transfer.proofs.Unsent.{said_all, says_none}
-use Rattle.packet_channel.specs.Channel.{CallState, Channel, ChannelNext, in_transfer, has_flow, next_owed, next_of}
-use Rattle.packet_channel.specs.Channel.CallState.{Ready, OwnWaiting, FarWaiting, Transfer, Collision, OwnClear}
+use Rattle.packet_channel.specs.Channel.{ChannelState, Channel, ChannelNext, in_transfer, has_flow, next_owed, next_of}
+use Rattle.packet_channel.specs.Channel.ChannelState.{Ready, OwnWaiting, FarWaiting, Transfer, Collision, OwnClear}
 use Rattle.packet_channel.specs.Unsent.{ChannelHasSaidAll}
 
-flow_there : (state : CallState) (resetting : Bool) → state ≡ Transfer → resetting ≡ false →
+flow_there : (state : ChannelState) (resetting : Bool) → state ≡ Transfer → resetting ≡ false →
     (in_transfer state && not resetting) ≡ true
 flow_there state resetting at none =
-    ap (λ (s : CallState). in_transfer s && not resetting) at ∙ ap (λ (b : Bool). not b) none
+    ap (λ (s : ChannelState). in_transfer s && not resetting) at ∙ ap (λ (b : Bool). not b) none
 
 is_there : (b : Bool) (x y : ChannelNext) → b ≡ true → is_some (if b then x else y).body ≡ false →
     is_some x.body ≡ false
@@ -42,7 +42,7 @@ unsent_after flow old new false same p is =
 
 -- ---- and back
 
-state_of_flow : (state : CallState) → in_transfer state ≡ true → state ≡ Transfer
+state_of_flow : (state : ChannelState) → in_transfer state ≡ true → state ≡ Transfer
 state_of_flow Transfer h = refl
 state_of_flow Ready h = absurd (cc)
 state_of_flow OwnWaiting h = absurd (cc)

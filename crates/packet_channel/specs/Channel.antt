@@ -20,16 +20,16 @@ use Rattle.data_transfer.specs.Traffic.Heard.{Keeps, Confirms, Wrong}
 use Rattle.data_transfer.specs.declared.flow.Flow.{Flow}
 
 -- p1; p2 of a DTE or p3 of a DCE; p3 of a DTE or p2 of a DCE; p4; p5; p6 of a DTE or p7 of a DCE
-pub data CallState : Type 0 where
-  Ready : CallState
-  OwnWaiting : CallState
-  FarWaiting : CallState
-  Transfer : CallState
-  Collision : CallState
-  OwnClear : CallState
+pub data ChannelState : Type 0 where
+  Ready : ChannelState
+  OwnWaiting : ChannelState
+  FarWaiting : ChannelState
+  Transfer : ChannelState
+  Collision : ChannelState
+  OwnClear : ChannelState
 
 -- the number of the state p1 to p7
-abbrev pub p_number : Role → CallState → ℕ
+abbrev pub p_number : Role → ChannelState → ℕ
 p_number role Ready = 1
 p_number Dte OwnWaiting = 2
 p_number Dce OwnWaiting = 3
@@ -43,7 +43,7 @@ p_number Dce OwnClear = 7
 -- a channel: in p4, resetting says d2 of a DTE or d3 of a DCE, and not resetting d1; owed are the control packets not
 -- yet handed to the link
 pub record Channel : Type 0 where
-  pub state : CallState
+  pub state : ChannelState
   pub resetting : Bool
   pub owed : List Body
   pub traffic : Traffic
@@ -65,11 +65,11 @@ abbrev pub error_cause : Role → ℕ → ℕ
 error_cause Dte cause = clear_cause.dte_originated
 error_cause Dce cause = cause
 
-abbrev pub entered : CallState → Channel → Channel
+abbrev pub entered : ChannelState → Channel → Channel
 entered s ch = record ch { state = s }
 
 -- a call's end drops the traffic
-abbrev pub ended : CallState → Channel → Channel
+abbrev pub ended : ChannelState → Channel → Channel
 ended s ch = record ch { state = s; resetting = false; traffic = fresh }
 
 -- so does a reset, begun or learnt
@@ -177,7 +177,7 @@ in_own_clear ch (Clear cause diagnostic) = quiet (entered Ready ch)
 in_own_clear ch ClearConfirmation = quiet (entered Ready ch)
 in_own_clear ch _ = quiet ch
 
-abbrev pub received_in : CallState → Role → Flow → ℕ → Channel → Body → Step
+abbrev pub received_in : ChannelState → Role → Flow → ℕ → Channel → Body → Step
 received_in Ready role flow c ch body = in_ready role c ch body
 received_in OwnWaiting role flow c ch body = in_own_waiting role c ch body
 received_in FarWaiting role flow c ch body = in_far_waiting role c ch body
@@ -193,7 +193,7 @@ received role flow c ch body = received_in ch.state role flow c ch body
 abbrev pub diagnostic_if : (unknown : Bool) → ℕ → ℕ
 diagnostic_if unknown diagnostic = if unknown then diagnostic else no_information
 
-abbrev pub unreadable_in : CallState → Role → ℕ → Bool → Channel → Step
+abbrev pub unreadable_in : ChannelState → Role → ℕ → Bool → Channel → Step
 unreadable_in Ready role c unknown ch = clear_error role c (diagnostic_if unknown (not_allowed_in_p 1)) false ch
 unreadable_in OwnClear role c unknown ch = quiet ch
 unreadable_in Transfer role c unknown ch =
@@ -229,17 +229,17 @@ pub data Refusal : Type 0 where
   TooLong : Refusal
   InterruptPending : Refusal
 
-abbrev pub may_accept : Role → CallState → Bool
+abbrev pub may_accept : Role → ChannelState → Bool
 may_accept role FarWaiting = true
 may_accept Dce Collision = true
 may_accept role _ = false
 
-abbrev pub may_clear : CallState → Bool
+abbrev pub may_clear : ChannelState → Bool
 may_clear Ready = false
 may_clear OwnClear = false
 may_clear _ = true
 
-abbrev pub in_transfer : CallState → Bool
+abbrev pub in_transfer : ChannelState → Bool
 in_transfer Transfer = true
 in_transfer _ = false
 
@@ -336,7 +336,7 @@ next_of flow ch = next_owed flow ch.owed ch
 -- ---- placing a call
 
 -- a channel can be given to a new call in p1, once all its control packets went
-abbrev pub is_ready : CallState → Bool
+abbrev pub is_ready : ChannelState → Bool
 is_ready Ready = true
 is_ready _ = false
 
@@ -348,17 +348,17 @@ placing parts ch = record { channel = entered OwnWaiting ch; owes = Some (Call p
 
 -- ---- questions
 
-abbrev pub had_call : CallState → Bool
+abbrev pub had_call : ChannelState → Bool
 had_call Ready = false
 had_call OwnClear = false
 had_call _ = true
 
-abbrev pub waits_for_call : Role → CallState → Bool
+abbrev pub waits_for_call : Role → ChannelState → Bool
 waits_for_call role OwnWaiting = true
 waits_for_call Dte Collision = true
 waits_for_call role _ = false
 
-abbrev pub waits_for_clear : CallState → Bool
+abbrev pub waits_for_clear : ChannelState → Bool
 waits_for_clear OwnClear = true
 waits_for_clear _ = false
 

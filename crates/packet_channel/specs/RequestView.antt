@@ -2,8 +2,6 @@
 use Rattle.packet_channel.specs.Channel as spec
 use Rattle.packet_channel.specs.declared.channel.requests.Request.{Request}
 use Rattle.packet_channel.specs.declared.channel.requests.Request.TheVariants as request
-use Rattle.packet_channel.specs.declared.channel.requests.BareRequest.{BareRequest}
-use Rattle.packet_channel.specs.declared.channel.requests.BareRequest.TheVariants as bare
 use Rattle.packet_channel.specs.declared.fault.ChannelFault.{ChannelFault}
 use Rattle.packet_channel.specs.declared.fault.ChannelFault.TheVariants as fault
 
@@ -17,13 +15,6 @@ request_of (request.Interrupt octets) = spec.Request.Interrupting octets.now
 request_of (request.Stop stopped) = spec.Request.Stopping stopped
 request_of (request.Release count) = spec.Request.Releasing count
 request_of request.ConfirmInterrupt = spec.Request.Confirming
-
-abbrev pub bare_request_of : BareRequest → spec.Request
-bare_request_of bare.Accept = spec.Request.Accept
-bare_request_of (bare.Interrupt octets) = spec.Request.Interrupting octets.now
-bare_request_of (bare.Stop stopped) = spec.Request.Stopping stopped
-bare_request_of (bare.Release count) = spec.Request.Releasing count
-bare_request_of bare.ConfirmInterrupt = spec.Request.Confirming
 
 abbrev pub refusal_of : ChannelFault → spec.Refusal
 refusal_of fault.NoCall = spec.Refusal.NoCall

@@ -1,12 +1,12 @@
 -- The states of a channel, as the code has them.
 use Rattle.packet_channel.specs.Channel as spec
-use Rattle.packet_channel.specs.declared.state.CallState.{CallState}
-use Rattle.packet_channel.specs.declared.state.CallState.TheVariants as state
+use Rattle.packet_channel.specs.declared.state.ChannelState.{ChannelState}
+use Rattle.packet_channel.specs.declared.state.ChannelState.TheVariants as state
 
-abbrev pub state_of : CallState → spec.CallState
-state_of state.Ready = spec.CallState.Ready
-state_of state.OwnWaiting = spec.CallState.OwnWaiting
-state_of state.FarWaiting = spec.CallState.FarWaiting
-state_of state.Transfer = spec.CallState.Transfer
-state_of state.Collision = spec.CallState.Collision
-state_of state.OwnClear = spec.CallState.OwnClear
+abbrev pub state_of : ChannelState → spec.ChannelState
+state_of state.Ready = spec.ChannelState.Ready
+state_of state.OwnWaiting = spec.ChannelState.OwnWaiting
+state_of state.FarWaiting = spec.ChannelState.FarWaiting
+state_of state.Transfer = spec.ChannelState.Transfer
+state_of state.Collision = spec.ChannelState.Collision
+state_of state.OwnClear = spec.ChannelState.OwnClear

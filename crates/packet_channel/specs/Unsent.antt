@@ -3,7 +3,7 @@ use Rattle.std.specs.Prelude.{◌≡◌, false, []}
 use Rattle.data_transfer.specs.Unsent.{HasSaidAll}
 use Rattle.data_transfer.specs.declared.flow.Flow.{Flow}
 use Rattle.packet_channel.specs.Channel.{Channel}
-use Rattle.packet_channel.specs.Channel.CallState.{Transfer}
+use Rattle.packet_channel.specs.Channel.ChannelState.{Transfer}
 
 -- Nothing that may go stays unsent: no control packet is owed, and a call in data transfer has said all, unless its own
 -- reset is not confirmed.

@@ -22,11 +22,11 @@ mod requests;
 use crate::control::{Control, write_control};
 use crate::notes::Notes;
 use crate::owed::Owed;
-use crate::state::{CallState, End};
+use crate::state::{ChannelState, End};
 use data_transfer::{Flow, Front, SEND_QUEUE, TakenBuf, Traffic};
 use flow_window::pool::Pool;
 use packet_codec::{CallBuf, PacketBuf, diagnostic};
-pub use requests::{BareRequest, Request};
+pub use requests::Request;
 use std::alloc::{AllocError, Global};
 use std::marker::Model;
 
@@ -34,7 +34,7 @@ use std::marker::Model;
 /// are owed to the link, and what is in transfer.
 #[derive(Drop)]
 pub struct Channel {
-    state: CallState,
+    state: ChannelState,
     resetting: bool,
     owed: Owed<Control>,
     traffic: Traffic,
@@ -63,7 +63,7 @@ impl Channel {
     {
         let traffic = Traffic::new(alloc)?;
         Ok(Channel {
-            state: CallState::Ready,
+            state: ChannelState::Ready,
             resetting: false,
             owed: Owed::new(),
             traffic,
@@ -73,10 +73,10 @@ impl Channel {
     /// Enters the state of a standing call.
     pub fn stand(&mut self)
         ensures { self.new ≡ record self.old {
-          channel = machine.entered machine.CallState.Transfer self.old.channel;
+          channel = machine.entered machine.ChannelState.Transfer self.old.channel;
         } }
     {
-        self.state = CallState::Transfer;
+        self.state = ChannelState::Transfer;
     }
 
     /// Ends the call and drops all that is owed, as a restart does. All buffers go back.
@@ -85,14 +85,14 @@ impl Channel {
         ensures channel { self.new ≡ record { channel = machine.closed_channel; held = [] } }
         ensures pool { Balances pool.old self.old.held pool.new [] }
     {
-        self.state = CallState::Ready;
+        self.state = ChannelState::Ready;
         self.resetting = false;
         self.owed.clear();
         self.traffic.clear(pool);
     }
 
     /// The state of the call.
-    pub fn state(&self) -> CallState
+    pub fn state(&self) -> ChannelState
         ensures { state_of result ≡ self.now.channel.state }
     {
         self.state
@@ -209,6 +209,13 @@ impl Channel {
         self.traffic.next_packet(flow, channel, buf, pool)
     }
 
+    /// Whether `next_packet` has a packet.
+    pub fn has_packet(&self, flow: Flow) -> bool
+        ensures { result ≡ is_some (machine.next_of flow self.now.channel).body }
+    {
+        !self.owed.is_empty() || (self.has_flow() && self.traffic.has_packet(flow))
+    }
+
     /// Clears the call whose timer expired, and answers whether one control packet too many is owed.
     pub fn expire(&mut self, end: End, pool: &mut Pool, notes: &mut Notes) -> bool
         requires holds { Holds pool.old self.old.held }
@@ -223,17 +230,17 @@ impl Channel {
 
     /// Places a call on a free channel, and answers whether one control packet too many is owed.
     pub fn place_call(&mut self, call: CallBuf) -> bool
-        requires { self.old.channel.state ≡ machine.CallState.Ready }
+        requires { self.old.channel.state ≡ machine.ChannelState.Ready }
         ensures channel { self.new ≡ record self.old {
           channel = machine.owing (machine.placing (parts_of call) self.old.channel);
         } }
         ensures passes { result ≡ machine.passes_limit self.old.channel.owed (Some (body.Call (parts_of call))) }
     {
-        self.state = CallState::OwnWaiting;
+        self.state = ChannelState::OwnWaiting;
         self.owe(Control::Call(call))
     }
 
-    // Owes a control packet more, and answers whether it is one too many.
+    /// Owes a control packet more, and answers whether it is one too many.
     #[tactic(auto, using(crate::proofs::Owing::map_with_owed, crate::proofs::Owing::map_passes))]
     pub(crate) fn owe(&mut self, control: Control) -> bool
         ensures channel { self.new ≡ record self.old {

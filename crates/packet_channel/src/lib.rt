@@ -10,9 +10,9 @@ mod notes;
 mod owed;
 mod state;
 
-pub use channel::{BareRequest, Channel, Request};
+pub use channel::{Channel, Request};
 pub use fault::{ChannelFault, RefusedBuf};
 pub use note::{LayerNote, Reason};
 pub use notes::{NoteQueue, Notes};
 pub use owed::Owed;
-pub use state::{CallState, End, MOST_CHANNELS, error_cause};
+pub use state::{ChannelState, End, MOST_CHANNELS, error_cause};

@@ -9,7 +9,7 @@ use packet_codec::clear_cause;
 
 /// The states p1 to p7 of a channel. "Own" is what this end began, "far" what the other end did.
 #[derive(Clone, Copy, PartialEq, Eq)]
-pub enum CallState {
+pub enum ChannelState {
     /// p1.
     Ready,
     /// p2 of a DTE, p3 of a DCE.
@@ -24,20 +24,20 @@ pub enum CallState {
     OwnClear,
 }
 
-impl CallState {
+impl ChannelState {
     /// The number of the state, 1 to 7.
     pub(crate) fn number(self, role: Role) -> u8
         ensures value { result ≡ machine.p_number role (state_of self) }
         ensures most { result ≤ 7 }
     {
         match (self, role) {
-            (CallState::Ready, _) => 1,
-            (CallState::OwnWaiting, Role::Dte) | (CallState::FarWaiting, Role::Dce) => 2,
-            (CallState::OwnWaiting, Role::Dce) | (CallState::FarWaiting, Role::Dte) => 3,
-            (CallState::Transfer, _) => 4,
-            (CallState::Collision, _) => 5,
-            (CallState::OwnClear, Role::Dte) => 6,
-            (CallState::OwnClear, Role::Dce) => 7,
+            (ChannelState::Ready, _) => 1,
+            (ChannelState::OwnWaiting, Role::Dte) | (ChannelState::FarWaiting, Role::Dce) => 2,
+            (ChannelState::OwnWaiting, Role::Dce) | (ChannelState::FarWaiting, Role::Dte) => 3,
+            (ChannelState::Transfer, _) => 4,
+            (ChannelState::Collision, _) => 5,
+            (ChannelState::OwnClear, Role::Dte) => 6,
+            (ChannelState::OwnClear, Role::Dce) => 7,
         }
     }
 
@@ -46,12 +46,12 @@ impl CallState {
         ensures { result ≡ machine.may_accept role (state_of self) }
     {
         match (self, role) {
-            (CallState::FarWaiting, _) | (CallState::Collision, Role::Dce) => true,
-            (CallState::Collision, Role::Dte)
-            | (CallState::Ready, _)
-            | (CallState::OwnWaiting, _)
-            | (CallState::Transfer, _)
-            | (CallState::OwnClear, _) => false,
+            (ChannelState::FarWaiting, _) | (ChannelState::Collision, Role::Dce) => true,
+            (ChannelState::Collision, Role::Dte)
+            | (ChannelState::Ready, _)
+            | (ChannelState::OwnWaiting, _)
+            | (ChannelState::Transfer, _)
+            | (ChannelState::OwnClear, _) => false,
         }
     }
 
@@ -61,11 +61,11 @@ impl CallState {
         ensures had { result ≡ machine.had_call (state_of self) }
     {
         match self {
-            CallState::Ready | CallState::OwnClear => false,
-            CallState::OwnWaiting
-            | CallState::FarWaiting
-            | CallState::Transfer
-            | CallState::Collision => true,
+            ChannelState::Ready | ChannelState::OwnClear => false,
+            ChannelState::OwnWaiting
+            | ChannelState::FarWaiting
+            | ChannelState::Transfer
+            | ChannelState::Collision => true,
         }
     }
 
@@ -74,12 +74,12 @@ impl CallState {
         ensures { result ≡ machine.in_transfer (state_of self) }
     {
         match self {
-            CallState::Transfer => true,
-            CallState::Ready
-            | CallState::OwnWaiting
-            | CallState::FarWaiting
-            | CallState::Collision
-            | CallState::OwnClear => false,
+            ChannelState::Transfer => true,
+            ChannelState::Ready
+            | ChannelState::OwnWaiting
+            | ChannelState::FarWaiting
+            | ChannelState::Collision
+            | ChannelState::OwnClear => false,
         }
     }
 
@@ -87,12 +87,12 @@ impl CallState {
         ensures { result ≡ machine.is_ready (state_of self) }
     {
         match self {
-            CallState::Ready => true,
-            CallState::OwnWaiting
-            | CallState::FarWaiting
-            | CallState::Transfer
-            | CallState::Collision
-            | CallState::OwnClear => false,
+            ChannelState::Ready => true,
+            ChannelState::OwnWaiting
+            | ChannelState::FarWaiting
+            | ChannelState::Transfer
+            | ChannelState::Collision
+            | ChannelState::OwnClear => false,
         }
     }
 
@@ -101,12 +101,12 @@ impl CallState {
         ensures { result ≡ machine.waits_for_call role (state_of self) }
     {
         match (self, role) {
-            (CallState::OwnWaiting, _) | (CallState::Collision, Role::Dte) => true,
-            (CallState::Collision, Role::Dce)
-            | (CallState::Ready, _)
-            | (CallState::FarWaiting, _)
-            | (CallState::Transfer, _)
-            | (CallState::OwnClear, _) => false,
+            (ChannelState::OwnWaiting, _) | (ChannelState::Collision, Role::Dte) => true,
+            (ChannelState::Collision, Role::Dce)
+            | (ChannelState::Ready, _)
+            | (ChannelState::FarWaiting, _)
+            | (ChannelState::Transfer, _)
+            | (ChannelState::OwnClear, _) => false,
         }
     }
 
@@ -115,12 +115,12 @@ impl CallState {
         ensures { result ≡ machine.waits_for_clear (state_of self) }
     {
         match self {
-            CallState::OwnClear => true,
-            CallState::Ready
-            | CallState::OwnWaiting
-            | CallState::FarWaiting
-            | CallState::Transfer
-            | CallState::Collision => false,
+            ChannelState::OwnClear => true,
+            ChannelState::Ready
+            | ChannelState::OwnWaiting
+            | ChannelState::FarWaiting
+            | ChannelState::Transfer
+            | ChannelState::Collision => false,
         }
     }
 }

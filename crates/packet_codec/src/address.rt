@@ -90,14 +90,14 @@ impl Address {
     }
 }
 
-// Whether each octet of a text is one of the characters 0 to 9.
+/// Whether each octet of a text is one of the characters 0 to 9.
 fn all_digits(text: &[u8]) -> bool
     ensures { result ≡ are_digits text.now }
 {
     text.iter().all(|octet| octet.is_ascii_digit())
 }
 
-// What the characters of a text are worth.
+/// What the characters of a text are worth.
 fn values_of(text: &[u8]) -> ArrayVec<u8, MAX_DIGITS>
     requires short { length text.now ≤ MAX_DIGITS }
     requires digits { IsTrue (are_digits text.now) }

@@ -26,7 +26,7 @@ struct Parts<'a> {
     after: &'a [u8],
 }
 
-// The parts of a call block, if its addresses stand there whole.
+/// The parts of a call block, if its addresses stand there whole.
 fn split_addresses(block: &[u8]) -> Option<Parts<'_>>
     ensures some { IsSome result ↔ IsTrue (has_addresses block.now) }
     ensures called { IfSome result (λ p. p.called ≡ called_length block.now) }
@@ -54,7 +54,7 @@ fn split_addresses(block: &[u8]) -> Option<Parts<'_>>
     })
 }
 
-// The facilities behind the addresses, and what follows them, if they stand there whole.
+/// The facilities behind the addresses, and what follows them, if they stand there whole.
 fn split_facilities(after: &[u8]) -> Option<(&[u8], &[u8])>
     ensures some { IsSome result ↔ IsTrue (has_facilities after.now) }
     ensures facilities { IfSome result (λ p. p.0.now ≡ facilities_of after.now) }
@@ -70,7 +70,7 @@ fn split_facilities(after: &[u8]) -> Option<(&[u8], &[u8])>
     Some(rest.split_at(len))
 }
 
-// The first `count` half octets.
+/// The first `count` half octets.
 fn half_octets(octets: &[u8], count: usize) -> Digits
     requires short { length octets.now ≤ 15 }
     requires count { count ≤ 2 * length octets.now }
@@ -86,7 +86,7 @@ fn half_octets(octets: &[u8], count: usize) -> Digits
     digits
 }
 
-// Whether each digit is 0 to 9.
+/// Whether each digit is 0 to 9.
 fn all_decimal(digits: &[u8]) -> bool
     ensures { result ≡ are_decimal digits.now }
 {
@@ -120,7 +120,7 @@ pub(crate) fn read_call(block: &[u8]) -> Result<Content<'_>, PacketFault>
     }))
 }
 
-// No digits are no address.
+/// No digits are no address.
 fn address_or_none(digits: &[u8]) -> Option<Address>
     requires { MayBeDigits digits.now }
     ensures { digits_or_none result ≡ digits.now }
@@ -152,7 +152,7 @@ pub(crate) fn read_accepted(block: &[u8]) -> Result<Content<'_>, PacketFault>
     Ok(Content::CallAccepted)
 }
 
-// Whether nothing follows, or facilities alone.
+/// Whether nothing follows, or facilities alone.
 fn ends_in_facilities(after: &[u8]) -> bool
     ensures { result ≡ ends_in_facilities after.now }
 {

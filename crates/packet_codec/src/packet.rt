@@ -34,7 +34,7 @@ impl Numbering {
     ghost use Rattle.std.specs.Prelude.{◌≡◌};
     ghost use Rattle.packet_codec.specs.Packet.{format_id};
 
-    // Bits 6 and 5 of the first octet.
+    /// Bits 6 and 5 of the first octet.
     pub(crate) fn format_id(self) -> u8
         ensures { result ≡ format_id self }
     {

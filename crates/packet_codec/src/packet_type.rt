@@ -47,7 +47,7 @@ impl PacketType {
         PacketType::of_odd(numbering, third, rest)
     }
 
-    // The type, if any, where bit 1 of the third octet is one.
+    /// The type, if any, where bit 1 of the third octet is one.
     fn of_odd(numbering: Numbering, third: u8, rest: &[u8]) -> Option<PacketType>
         ensures { result ≡ other_type numbering third rest.now }
     {
@@ -65,7 +65,7 @@ impl PacketType {
         }
     }
 
-    // The type, unless bit 1 of the octet after the third is one.
+    /// The type, unless bit 1 of the octet after the third is one.
     fn if_numbered(self, rest: &[u8]) -> Option<PacketType>
         ensures { result ≡ numbered self rest.now }
     {
@@ -75,7 +75,7 @@ impl PacketType {
         }
     }
 
-    // The type that has this octet to itself, if any.
+    /// The type that has this octet to itself, if any.
     fn of_code(octet: u8) -> Option<PacketType>
         ensures { result ≡ code_type octet }
     {

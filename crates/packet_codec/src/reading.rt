@@ -75,7 +75,7 @@ fn channel_number(first: u8, second: u8) -> u16
     256 * u16::from(first % 16) + u16::from(second)
 }
 
-// The type that the octets name.
+/// The type that the octets name.
 fn named(numbering: Numbering, first: u8, second: u8, third: u8, rest: &[u8]) -> Option<PacketType>
     ensures { result ≡ named_type numbering first second third rest.now }
 {
@@ -88,7 +88,7 @@ fn named(numbering: Numbering, first: u8, second: u8, third: u8, rest: &[u8]) ->
     }
 }
 
-// What a packet of the type says: `bits` are its Q and D bits, `rest` the octets after the third.
+/// What a packet of the type says: `bits` are its Q and D bits, `rest` the octets after the third.
 fn read_content(
     numbering: Numbering,
     size: u16,
@@ -143,7 +143,7 @@ fn read_content(
     }
 }
 
-// A cause and a diagnostic, which is 0 where it is missing.
+/// A cause and a diagnostic, which is 0 where it is missing.
 fn read_cause(rest: &[u8]) -> Option<(u8, u8)>
     ensures { result ≡ cause_of rest.now }
 {
@@ -163,7 +163,7 @@ fn read_interrupt(rest: &[u8]) -> Result<Content<'_>, PacketFault>
     Ok(Content::Interrupt(rest))
 }
 
-// P(R) of RR and RNR.
+/// P(R) of RR and RNR.
 fn read_number(numbering: Numbering, third: u8, rest: &[u8]) -> Option<u8>
     ensures { result ≡ number_of numbering third rest.now }
 {

@@ -61,7 +61,7 @@ fn write(packet: &Packet, buf: &mut PacketBuf)
     }
 }
 
-// The first three octets without Q and D, in place of what the buffer has.
+/// The first three octets without Q and D, in place of what the buffer has.
 fn begin(buf: &mut PacketBuf, numbering: Numbering, channel: u16, type_octet: u8)
     requires { channel < 4096 }
     ensures { buf.new.items ≡ plain_header numbering channel type_octet }
@@ -69,7 +69,7 @@ fn begin(buf: &mut PacketBuf, numbering: Numbering, channel: u16, type_octet: u8
     begin_with(buf, numbering, (false, false), channel, type_octet);
 }
 
-// The first three octets, with these bits Q and D, in place of what the buffer has.
+/// The first three octets, with these bits Q and D, in place of what the buffer has.
 fn begin_with(
     buf: &mut PacketBuf,
     numbering: Numbering,
@@ -123,7 +123,7 @@ fn write_data(numbering: Numbering, channel: u16, packet: &DataPacket, buf: &mut
     append(buf, packet.user_data);
 }
 
-// RR or RNR, by its code.
+/// RR or RNR, by its code.
 fn write_flow(numbering: Numbering, channel: u16, code: u8, receive: u8, buf: &mut PacketBuf)
     requires channel { channel < 4096 }
     requires code { code < 32 }
@@ -155,7 +155,7 @@ fn write_call(numbering: Numbering, channel: u16, call: &CallData, buf: &mut Pac
     append(buf, call.user_data);
 }
 
-// The lengths of the two addresses and their digits, two in an octet.
+/// The lengths of the two addresses and their digits, two in an octet.
 fn append_addresses(buf: &mut PacketBuf, called: &[u8], calling: &[u8])
     requires room { length buf.old.items ≤ 16 }
     requires called { MayBeDigits called.now }
@@ -170,7 +170,7 @@ fn append_addresses(buf: &mut PacketBuf, called: &[u8], calling: &[u8])
     append_packed(buf, digits.as_slice());
 }
 
-// Two digits in an octet, the first in the high half; behind an odd last one the low half is 0.
+/// Two digits in an octet, the first in the high half; behind an odd last one the low half is 0.
 fn append_packed(buf: &mut PacketBuf, digits: &[u8])
     requires room { length buf.old.items + length digits.now ≤ MAX_PACKET }
     requires decimal { IsTrue (are_decimal digits.now) }

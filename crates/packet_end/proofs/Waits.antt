@@ -12,7 +12,7 @@ use Rattle.packet_codec.specs.Reading.{reading, typed, on_channel, named_channel
 use Rattle.packet_codec.specs.Reading as codec
 use Rattle.data_transfer.specs.declared.flow.Flow.{Flow}
 use Rattle.data_transfer.specs.Packets.{CallParts, Packet, Body}
-use Rattle.packet_channel.specs.Channel.{CallState, Channel, Step, Request, Refusal, carried_out, unless, refusal, requested, owing, in_transfer, has_flow, moved, next_of, next_owed, ChannelNext, waits_for_call, waits_for_clear, received, unreadable, placing}
+use Rattle.packet_channel.specs.Channel.{ChannelState, Channel, Step, Request, Refusal, carried_out, unless, refusal, requested, owing, in_transfer, has_flow, moved, next_of, next_owed, ChannelNext, waits_for_call, waits_for_clear, received, unreadable, placing}
 use Rattle.packet_channel.specs.Channel.Request.{Accept, Clearing, Resetting, Sending, Interrupting, Stopping, Taking, Releasing, Confirming}
 use Rattle.packet_layer.specs.Layer.{Layer, Phase, Timer, nth_channel, channel_of, with_nth, unread, on_found, packet_in, runs_at, serve, serve_found, served, next_number, next_restart, next_in, next_packet, Next, placed_on}
 use Rattle.data_transfer.specs.Traffic.{says}
@@ -25,7 +25,7 @@ use Rattle.packet_end.specs.Touched.{has, OthersAgree, NamesAnother, is_of_call}
 use Rattle.packet_end.specs.declared.touched.Touched.{Touched}
 
 -- what of a channel its timers depend on
-abbrev pub seen : Option Channel → Option (CallState × Bool)
+abbrev pub seen : Option Channel → Option (ChannelState × Bool)
 seen None = None
 seen (Some ch) = Some (ch.state, ch.resetting)
 
@@ -41,18 +41,18 @@ same_as old c = record { role = refl; phase = refl; channel = refl }
 -- ---- the timers that run
 
 -- a test of what is seen of a channel, in r1
-abbrev test_in : (CallState → Bool → Bool) → Phase → Option (CallState × Bool) → Bool
+abbrev test_in : (ChannelState → Bool → Bool) → Phase → Option (ChannelState × Bool) → Bool
 test_in f PacketReady (Some s) = f s.0 s.1
 test_in f phase found = false
 
-by_seen : (f : CallState → Bool → Bool) (phase : Phase) (found : Option Channel) →
+by_seen : (f : ChannelState → Bool → Bool) (phase : Phase) (found : Option Channel) →
     runs_at (λ ch. f ch.state ch.resetting) phase found ≡ test_in f phase (seen found)
 by_seen f NoSession found = refl
 by_seen f OwnRestart found = refl
 by_seen f PacketReady None = refl
 by_seen f PacketReady (Some ch) = refl
 
-tests_alike : (f : CallState → Bool → Bool) (p q : Phase) (a b : Option Channel) → p ≡ q → seen a ≡ seen b →
+tests_alike : (f : ChannelState → Bool → Bool) (p q : Phase) (a b : Option Channel) → p ≡ q → seen a ≡ seen b →
     runs_at (λ ch. f ch.state ch.resetting) p a ≡ runs_at (λ ch. f ch.state ch.resetting) q b
 tests_alike f p q a b phase channel = by_seen f p a ∙ ap₂ (test_in f) phase channel ∙ sym (by_seen f q b)
 

@@ -4,8 +4,8 @@ use Rattle.lapb.specs.Params as link
 use Rattle.lapb.specs.declared.link.LinkParams.{LinkParams}
 use Rattle.data_transfer.specs.declared.flow.Flow.{Flow}
 use Rattle.packet_layer.specs.Params as layer
-use Rattle.packet_layer.specs.declared.fault.MakeFault.{MakeFault}
-use Rattle.packet_layer.specs.declared.fault.MakeFault.TheVariants as layer_fault
+use Rattle.packet_layer.specs.declared.fault.LayerFault.{LayerFault}
+use Rattle.packet_layer.specs.declared.fault.LayerFault.TheVariants as layer_fault
 use Rattle.packet_end.specs.declared.fault.EndFault.{EndFault}
 use Rattle.packet_end.specs.declared.fault.EndFault.TheVariants.{BadConfig, OutOfMemory}
 use Rattle.packet_end.specs.declared.params.EndParams.{EndParams}
@@ -28,6 +28,6 @@ MadeNot p BadConfig = AreParams p → ⊥
 MadeNot p OutOfMemory = AreParams p
 
 -- a fault of the layer is one of the end
-abbrev pub end_fault : MakeFault → EndFault
+abbrev pub end_fault : LayerFault → EndFault
 end_fault layer_fault.BadParams = BadConfig
 end_fault layer_fault.OutOfMemory = OutOfMemory

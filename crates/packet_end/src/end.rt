@@ -127,6 +127,7 @@ impl PacketEnd {
 
     /// Ends an event: a relink if it is due, all packets that may go, the timers as the packet layer wants them, and
     /// the frames that the link may send. No frame of the event is lost.
+    #[inline(always)]
     pub fn finish(&mut self)
         requires { length self.old.notes ≤ 64 }
         ensures end { self.new ≡ finished self.old }

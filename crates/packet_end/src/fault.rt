@@ -1,7 +1,7 @@
 //! Why an end of a line is not made.
 
 use lapb::BadParams;
-use packet_layer::MakeFault;
+use packet_layer::LayerFault;
 use std::alloc::AllocError;
 use thiserror::Error;
 
@@ -27,16 +27,16 @@ impl From<BadParams> for EndFault {
     }
 }
 
-impl From<MakeFault> for EndFault {
+impl From<LayerFault> for EndFault {
     ghost use Rattle.std.specs.Prelude.{◌≡◌};
     ghost use Rattle.packet_end.specs.Params.{end_fault};
 
     ghost from_gives = { λ fault made. made ≡ end_fault fault };
 
-    fn from(fault: MakeFault) -> Self {
+    fn from(fault: LayerFault) -> Self {
         match fault {
-            MakeFault::BadParams => EndFault::BadConfig,
-            MakeFault::OutOfMemory => EndFault::OutOfMemory,
+            LayerFault::BadParams => EndFault::BadConfig,
+            LayerFault::OutOfMemory => EndFault::OutOfMemory,
         }
     }
 }

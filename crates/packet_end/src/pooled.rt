@@ -273,10 +273,11 @@ impl PooledEnd {
     pub fn is_at_rest(&self) -> bool
         ensures { result ≡ at_rest self.now.end }
     {
-        self.line.is_at_rest() && self.layer.is_at_rest()
+        self.line.at_rest() && self.layer.is_at_rest()
     }
 
-    // What a note of the link is for the packet layer.
+    /// What a note of the link is for the packet layer.
+    #[inline(always)]
     fn heed(&mut self, note: Note, pool: &mut Pool)
         requires notes { length self.old.end.notes ≤ 64 }
         requires pool { Serves pool.old self.old.held self.old.share self.old.info }
@@ -296,7 +297,8 @@ impl PooledEnd {
     }
 }
 
-// Takes the notes of a packet layer over.
+/// Takes the notes of a packet layer over.
+#[inline(always)]
 fn gather(layer: &mut Layer, notes: &mut EventNotes)
     requires { length notes.old ≤ 64 }
     ensures layer { layer.new ≡ record layer.old { layer = unread layer.old.layer } }

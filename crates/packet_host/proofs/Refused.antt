@@ -8,7 +8,7 @@ use Rattle.link_timers.specs.declared.role.Role.TheVariants.{Dte, Dce}
 use Rattle.data_transfer.specs.declared.flow.Flow.{Flow}
 use Rattle.data_transfer.specs.Packets.{Datum}
 use Rattle.data_transfer.specs.Traffic.{Taken, Traffic, front_of, taking_of}
-use Rattle.packet_channel.specs.Channel.{CallState, Channel, Request, Refusal, Step, unless, quiet, refusal, requested, carried_out, may_accept, may_clear, refused_if}
+use Rattle.packet_channel.specs.Channel.{ChannelState, Channel, Request, Refusal, Step, unless, quiet, refusal, requested, carried_out, may_accept, may_clear, refused_if}
 use Rattle.packet_layer.specs.Layer.{Layer, Phase, nth_channel, with_nth, channel_of, on_found, after_step, request_refusal, refusal_at, call_refusal, free_channel, can_accept, can_accept_at, front_on, front_at}
 use Rattle.packet_layer.specs.Layer as machine
 use Rattle.data_transfer.specs.TakenView.{maybe_front, shown_front}
@@ -54,17 +54,17 @@ given_none l c Phase.OwnRestart is = absurd (cc)
 given_none l c Phase.PacketReady is = given_of l c (free_channel l.role l.channels) is
 
 -- a call that can be accepted can be cleared
-state_clears : (role : Role) (s : CallState) → may_accept role s ≡ true → may_clear s ≡ true
-state_clears role CallState.FarWaiting h = refl
-state_clears role CallState.Collision h = refl
-state_clears Dte CallState.Ready h = absurd (cc)
-state_clears Dce CallState.Ready h = absurd (cc)
-state_clears Dte CallState.OwnWaiting h = absurd (cc)
-state_clears Dce CallState.OwnWaiting h = absurd (cc)
-state_clears Dte CallState.Transfer h = absurd (cc)
-state_clears Dce CallState.Transfer h = absurd (cc)
-state_clears Dte CallState.OwnClear h = absurd (cc)
-state_clears Dce CallState.OwnClear h = absurd (cc)
+state_clears : (role : Role) (s : ChannelState) → may_accept role s ≡ true → may_clear s ≡ true
+state_clears role ChannelState.FarWaiting h = refl
+state_clears role ChannelState.Collision h = refl
+state_clears Dte ChannelState.Ready h = absurd (cc)
+state_clears Dce ChannelState.Ready h = absurd (cc)
+state_clears Dte ChannelState.OwnWaiting h = absurd (cc)
+state_clears Dce ChannelState.OwnWaiting h = absurd (cc)
+state_clears Dte ChannelState.Transfer h = absurd (cc)
+state_clears Dce ChannelState.Transfer h = absurd (cc)
+state_clears Dte ChannelState.OwnClear h = absurd (cc)
+state_clears Dce ChannelState.OwnClear h = absurd (cc)
 
 found_clears : (role : Role) (flow : Flow) (found : Option Channel) → can_accept_at role found ≡ true → refusal_at role flow (Request.Clearing 0 0) found ≡ None
 found_clears role flow None h = absurd (cc)

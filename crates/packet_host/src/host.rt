@@ -1,9 +1,9 @@
 //! The host and its calls.
 ghost use Rattle.std.specs.Prelude.{◌≡◌, ◌≤◌, [], true, false, Some, None, length, MatchResult, OnOk, OnErr};
-ghost use Rattle.std.specs.Prelude.{OnSome, MatchOption, slice_get, IfSome, is_some, vec_capacity};
+ghost use Rattle.std.specs.Prelude.{OnSome, slice_get, IfSome, is_some, vec_capacity};
 ghost use Rattle.packet_channel.specs.Channel.{Request as ask};
 ghost use Rattle.packet_layer.specs.Layer as machine;
-ghost use Rattle.packet_channel.specs.NoteView.{maybe_note, note_of};
+ghost use Rattle.packet_channel.specs.NoteView.{maybe_note};
 ghost use Rattle.packet_layer.specs.RequestView.{request_of, refusal_of, call_refusal_of};
 ghost use Rattle.data_transfer.specs.TakenView.{taken_of, maybe_taken, maybe_front, taken_octets, taken_with, HasFewOctets};
 ghost use Rattle.packet_end.specs.Params.{AreParams, MadeNot};
@@ -23,10 +23,12 @@ use packet_end::{EndFault, PacketEnd};
 use packet_layer::{CallFault, ChannelFault, Front, LayerNote, Request, Taken};
 use std::alloc::Global;
 use std::marker::Model;
+use std::ops::Deref;
 
 /// A host at one end of a line, in either role. Each call that changes the host, but `elapse` and what takes, is one
 /// event. Its frames are then taken by `out` and its notes by `notes`. After the next event they are gone, a frame as
-/// if the line had lost it. A call that is refused changes nothing.
+/// if the line had lost it. A call that is refused changes nothing. What asks about the host, without a change, is a call
+/// of [`PacketEnd`].
 #[derive(Drop)]
 pub struct Host {
     end: PacketEnd,
@@ -40,6 +42,16 @@ impl Model for Host {
     ghost use Rattle.packet_host.specs.HostView.{host_of};
 
     ghost view = { host_of };
+}
+
+impl Deref for Host {
+    type Target = PacketEnd;
+
+    fn deref(&self) -> &PacketEnd
+        ensures { result.now ≡ self.now }
+    {
+        &self.end
+    }
 }
 
 impl Host {
@@ -248,22 +260,6 @@ impl Host {
         self.end.front(channel).is_some()
     }
 
-    /// Whether the channel has a call in data transfer in which each packet sent with D = 1 since the last reset is
-    /// covered by a P(R) (X.25 4.3.3).
-    pub fn confirmed(&self, channel: u8) -> bool
-        ensures { result ≡ machine.confirmed self.now.layer channel }
-    {
-        self.end.confirmed(channel)
-    }
-
-    /// The next note of the event, if there is one.
-    pub fn first_note(&self) -> Option<&LayerNote>
-        ensures { MatchOption result (slice_get self.now.notes 0 ≡ None)
-            (λ note. slice_get self.now.notes 0 ≡ Some (note_of note.now)) }
-    {
-        self.end.first_note()
-    }
-
     /// Takes the next note of the event, if there is one.
     pub fn notes(&mut self) -> Option<LayerNote>
         ensures note { maybe_note result ≡ slice_get self.old.notes 0 }
@@ -272,7 +268,7 @@ impl Host {
         self.end.notes()
     }
 
-    // A request at the end of the line, which is an event where it is not refused.
+    /// A request at the end of the line, which is an event where it is not refused.
     fn request(&mut self, channel: u8, request: &Request<'_>) -> Result<(), ChannelFault>
         ensures answer { MatchResult result
             (λ _. machine.request_refusal self.old.layer channel (request_of request.now) ≡ None)
@@ -288,7 +284,7 @@ impl Host {
         Ok(())
     }
 
-    // Ends an event that has changed the end of the line.
+    /// Ends an event that has changed the end of the line.
     fn end_event(&mut self)
         ensures host { self.new ≡ ended self.old }
         ensures nothing_kept_back { end.KeepsNothingBack self.new }

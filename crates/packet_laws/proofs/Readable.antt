@@ -17,8 +17,8 @@ use Rattle.data_transfer.specs.Packets.{CallParts, Datum, Body, Packet, Received
 use Rattle.data_transfer.specs.Packets.Body.{Call, Accepted, Clear, ClearConfirmation, Data, Interrupt, InterruptConfirmation, ReceiveReady, ReceiveNotReady, Reset, ResetConfirmation, Restart, RestartConfirmation}
 use Rattle.data_transfer.specs.Traffic.{Traffic, Said, Heard, fresh, in_flight, window_open, flow_told, interrupted, unreleased, ready_or_not, may_release, releasing, confirming, taking_of, covers, keeps, arrives, partner_says, hears, says, says_interrupt, says_data, says_flow}
 use Rattle.data_transfer.specs.Traffic.Heard.{Keeps, Confirms, Wrong}
-use Rattle.packet_channel.specs.Channel.{CallState, Channel, Step, Request, Refusal, closed_channel, clear_error, reset_error, far_cleared, after_heard, in_flow_ready, in_own_reset, in_ready, in_own_waiting, in_far_waiting, in_collision, in_own_clear, received_in, received, unreadable_in, unreadable, in_transfer, has_flow, refused_if, refusal, carried_out, unless, requested}
-use Rattle.packet_channel.specs.Channel.CallState.{Ready, OwnWaiting, FarWaiting, Transfer, Collision, OwnClear}
+use Rattle.packet_channel.specs.Channel.{ChannelState, Channel, Step, Request, Refusal, closed_channel, clear_error, reset_error, far_cleared, after_heard, in_flow_ready, in_own_reset, in_ready, in_own_waiting, in_far_waiting, in_collision, in_own_clear, received_in, received, unreadable_in, unreadable, in_transfer, has_flow, refused_if, refusal, carried_out, unless, requested}
+use Rattle.packet_channel.specs.Channel.ChannelState.{Ready, OwnWaiting, FarWaiting, Transfer, Collision, OwnClear}
 use Rattle.packet_channel.specs.Channel.Request.{Accept, Clearing, Resetting, Sending, Interrupting, Stopping, Taking, Releasing, Confirming}
 use Rattle.packet_layer.specs.Layer.{Layer, Phase, Timer, Next, ChannelNext, channel_of, nth_channel, with_nth, standing_channels, made, is_full, with_owed, owing, unread, link_up, link_down, restart_packet, on_found, on_channel, on_received, runs, expired, on_timer, next_owed, next_of, next_number, served, serve_found, serve, next_restart, next_in, next_packet, placing, placed_on, channel_given, call, request}
 use Rattle.packet_layer.specs.Layer.Phase.{NoSession, OwnRestart, PacketReady}
@@ -159,7 +159,7 @@ in_own_clear-reads : (size : ℕ) (ch : Channel) (b : Body) → ChannelReads siz
 in_own_clear-reads size ch ClearConfirmation r = (r, tt)
 in_own_clear-reads size ch _ r = (r, tt)
 
-received_in-reads : (s : CallState) (role : Role) (flow : Flow) (c : ℕ) (ch : Channel) (b : Body) → ChannelReads flow.size ch →
+received_in-reads : (s : ChannelState) (role : Role) (flow : Flow) (c : ℕ) (ch : Channel) (b : Body) → ChannelReads flow.size ch →
     StepReads flow.size (received_in s role flow c ch b)
 received_in-reads Ready role flow c ch b r = in_ready-reads flow.size role c ch b r
 received_in-reads OwnWaiting role flow c ch b r = in_own_waiting-reads flow.size role c ch b r
@@ -170,7 +170,7 @@ received_in-reads Transfer role flow c ch b r =
 received_in-reads Collision role flow c ch b r = in_collision-reads flow.size role c ch b r
 received_in-reads OwnClear role flow c ch b r = in_own_clear-reads flow.size ch b r
 
-unreadable_in-reads : (size : ℕ) (s : CallState) (role : Role) (c : ℕ) (unknown : Bool) (ch : Channel) → ChannelReads size ch →
+unreadable_in-reads : (size : ℕ) (s : ChannelState) (role : Role) (c : ℕ) (unknown : Bool) (ch : Channel) → ChannelReads size ch →
     StepReads size (unreadable_in s role c unknown ch)
 unreadable_in-reads size Ready role c unknown ch r = clear-reads size role c 0 false ch r
 unreadable_in-reads size OwnClear role c unknown ch r = (r, tt)

@@ -5,9 +5,9 @@ use Rattle.data_transfer.specs.Flow.{modulus}
 use Rattle.data_transfer.specs.declared.flow.Flow.{Flow}
 use Rattle.packet_channel.specs.Channel.{Channel, in_transfer}
 use Rattle.packet_layer.specs.Layer.{channel_of}
-use Rattle.packet_laws.specs.Law.{epoch_now}
+use Rattle.packet_laws.specs.LayerLineLaw.{epoch_now}
 use Rattle.packet_laws.specs.Counts.{NamesCounts}
-use Rattle.packet_laws.specs.Line.{End, Happening, start_line, after}
+use Rattle.packet_laws.specs.LayerLine.{End, Happening, start_line, after}
 
 -- at one end, on channel c in session s
 abbrev pub IsCounted : (flow : Flow) → End → (s c : ℕ) → Type 0

@@ -9,8 +9,8 @@ use Rattle.data_transfer.specs.Packets.Body.{RestartConfirmation}
 use Rattle.data_transfer.specs.Traffic.{Traffic, Taken, Heard, front, may_release, hears}
 use Rattle.data_transfer.specs.Traffic.Taken.{TakenInterrupt, TakenPacket}
 use Rattle.data_transfer.specs.Traffic.Heard.{Keeps, Wrong}
-use Rattle.packet_channel.specs.Channel.{CallState, Channel, Request, Refusal, received, requested, refusal}
-use Rattle.packet_channel.specs.Channel.CallState.{Transfer}
+use Rattle.packet_channel.specs.Channel.{ChannelState, Channel, Request, Refusal, received, requested, refusal}
+use Rattle.packet_channel.specs.Channel.ChannelState.{Transfer}
 use Rattle.packet_channel.specs.Channel.Request.{Accept, Sending, Interrupting, Taking, Releasing}
 use Rattle.packet_layer.specs.Layer.{Phase, Layer, Timer, channel_of, runs}
 use Rattle.packet_layer.specs.Layer.Phase.{PacketReady}
@@ -128,7 +128,7 @@ requested_history role flow ch Accept st = accepted_unless (refusal role flow ch
 requested_history role flow ch r st =
     opened (requested role flow ch r).owes (grown_unless (refusal role flow ch r) (λ e. logged ch.traffic r e) st)
 
-abbrev pub heard_history : CallState → Bool → Heard → History → History
+abbrev pub heard_history : ChannelState → Bool → Heard → History → History
 heard_history Transfer false (Wrong diagnostic) st = st
 heard_history Transfer false h st = grown (λ e. logged_heard h e) st
 heard_history s b h st = st

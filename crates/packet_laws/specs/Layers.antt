@@ -1,5 +1,5 @@
 pub mod Epochs
 pub mod Acts
 pub mod Counts
-pub mod Law
-pub mod Run
+pub mod NumbersLaw
+pub mod LayerRun

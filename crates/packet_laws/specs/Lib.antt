@@ -3,7 +3,7 @@ pub mod Tables
 pub mod History
 pub mod Counts
 pub mod Counted
-pub mod Line
-pub mod Law
+pub mod LayerLine
+pub mod LayerLineLaw
 pub mod Owed
 pub mod Readable

@@ -3,15 +3,15 @@
 use Rattle.std.specs.Prelude.{◌≡◌, ℕ, ◌<◌, ◌≤◌, Bool, true, false, List, length, Some}
 use Rattle.data_transfer.specs.Flow.{modulus}
 use Rattle.data_transfer.specs.declared.flow.Flow.{Flow}
-use Rattle.packet_channel.specs.Channel.{CallState, Channel}
-use Rattle.packet_channel.specs.Channel.CallState.{Ready, OwnWaiting, FarWaiting, Transfer, Collision, OwnClear}
+use Rattle.packet_channel.specs.Channel.{ChannelState, Channel}
+use Rattle.packet_channel.specs.Channel.ChannelState.{Ready, OwnWaiting, FarWaiting, Transfer, Collision, OwnClear}
 use Rattle.packet_layer.specs.Layer.{channel_of}
 use Rattle.packet_layer.specs.Layer.Timer.{RestartTimer}
-use Rattle.packet_laws.specs.Line.{Line, Event, Happening, turned, start_line, happens, after}
-use Rattle.packet_laws.specs.Line.Event.{Expires}
+use Rattle.packet_laws.specs.LayerLine.{Line, Event, Happening, turned, start_line, happens, after}
+use Rattle.packet_laws.specs.LayerLine.Event.{Expires}
 
 -- the control packets that a channel owes at most, by its state: four only when its call is over
-abbrev pub most_owed : CallState → ℕ
+abbrev pub most_owed : ChannelState → ℕ
 most_owed FarWaiting = 0
 most_owed OwnWaiting = 1
 most_owed Collision = 1

@@ -2,4 +2,4 @@ pub mod States
 pub mod Rows
 pub mod Follows
 pub mod Notes
-pub mod Clauses
+pub mod TableClauses

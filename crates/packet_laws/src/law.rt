@@ -1,7 +1,7 @@
 //! The law of a line between two packet layers.
 ghost use Rattle.packet_laws.specs.Counts.{CountsLaw};
 ghost use Rattle.packet_laws.specs.Counted.{LineCountsLaw};
-ghost use Rattle.packet_laws.specs.Law.{LineLaw};
+ghost use Rattle.packet_laws.specs.LayerLineLaw.{LineLaw};
 ghost use Rattle.packet_laws.specs.Owed.{OwedLaw};
 
 /// The law of a line, over the definitions of the layer alone. It holds whatever is called at the two ends, whatever

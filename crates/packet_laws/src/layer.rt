@@ -1,7 +1,7 @@
 //! What the numbers on all channels of a packet layer name, whatever is called and whatever its partner does.
-ghost use Rattle.packet_laws.specs.Layers.Law.{MadeLaw, CallsLaw, GrowsLaw, NamedLaw, Always, IsNextNamed, ResetsInTransfer};
+ghost use Rattle.packet_laws.specs.Layers.NumbersLaw.{MadeLaw, CallsLaw, GrowsLaw, NamedLaw, Always, IsNextNamed, ResetsInTransfer};
 ghost use Rattle.packet_laws.specs.Layers.Counts.{AllAgree};
-ghost use Rattle.packet_laws.specs.Layers.Run.{RunLaw};
+ghost use Rattle.packet_laws.specs.Layers.LayerRun.{RunLaw};
 
 /// The law of one packet layer, over its definitions alone, by which each call of `Layer` is exact: whatever is called
 /// and whatever its partner sends, the numbers of each channel in data transfer name the counts of an epoch, which

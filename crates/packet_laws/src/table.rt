@@ -1,7 +1,7 @@
 //! The law of the packet layer and the state tables.
-ghost use Rattle.packet_laws.specs.Tables.Clauses.{EachPacket, CallPackets, DataPackets, CallsPlaced, CallActs, ResetPackets};
+ghost use Rattle.packet_laws.specs.Tables.TableClauses.{EachPacket, CallPackets, DataPackets, CallsPlaced, CallActs, ResetPackets};
 ghost use Rattle.packet_laws.specs.Tables.Notes.{SessionNotes, ExpiryNotes};
-ghost use Rattle.packet_laws.specs.Tables.Clauses.{ResetActs, RestartPackets, RestartUnreadable};
+ghost use Rattle.packet_laws.specs.Tables.TableClauses.{ResetActs, RestartPackets, RestartUnreadable};
 
 /// The machine of a packet layer, which knows own and far states, does what the state tables say, whose states go by
 /// role: in each state and for each packet and act of the user for which a table has a row it comes to the state of the

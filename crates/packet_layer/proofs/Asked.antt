@@ -1,18 +1,20 @@
 -- What a request of the call on the channel at a place comes to.
-use Rattle.std.proofs.Common.{◌≡◌, ℕ, ◌+◌, ◌<◌, Bool, length, set, get_or, Some, None, sym, ap, ◌∙◌}
+use Rattle.std.proofs.Common.{◌≡◌, ℕ, ◌+◌, ◌*◌, ◌<◌, Bool, length, set, get_or, Some, None, refl, sym, ap, subst, ◌∙◌}
+use Rattle.std.proofs.lemmas.List.{length-set}
 use Rattle.std.specs.Prelude.{slice_get, List, Result, Ok, Err, MatchResult, OnErr}
 use Rattle.std.specs.Result.{IsErrAnd}
-use Rattle.packet_channel.specs.Answers.{CarriedOut, Refused, WhenSending}
+use Rattle.packet_channel.specs.Answers.{Answers, CarriedOut, Refused, WhenSending}
 use Rattle.packet_channel.specs.Channel.{Request}
 use Rattle.packet_channel.specs.Held.{Channel as Holder}
 use Rattle.packet_channel.specs.RequestView.{refusal_of}
 use Rattle.packet_channel.specs.declared.fault.ChannelFault.{ChannelFault}
 use Rattle.packet_layer.specs.declared.layer.Layer.TheInside.{Inside}
-use Rattle.packet_layer.specs.Held.{Layer as Held, plain, buffers}
+use Rattle.packet_layer.specs.Held.{Layer as Held, plain, buffers, most_held}
+use Rattle.packet_layer.specs.Answered.{IsPassedOn}
 use Rattle.packet_layer.specs.Layer as machine
 use Rattle.packet_layer.specs.Layer.{Layer, set_if}
 use Rattle.packet_layer.specs.LayerView.{holding, layer_of}
-use Rattle.packet_layer.proofs.Placed.{placed, plain_at, plain_set, buffers_same}
+use Rattle.packet_layer.proofs.Placed.{placed, plain_at, plain_set, plain_length, buffers_same}
 use Rattle.packet_layer.proofs.Places.{request_done, request_refused, refused_at, set_same}
 
 -- the channel of this number is at this place
@@ -89,6 +91,46 @@ pub same_held : (a : Inside) (x : Held) (c place : ℕ) (old new : Holder) → I
     new.held ≡ old.held → buffers (set a.channels.items place new) ≡ x.held
 same_held a x c place old new at same =
     buffers_same a.channels.items place old new at.there same ∙ ap (λ (x : Held). x.held) at.view
+
+-- all that is told of it
+pub record IsAsked (x new : Held) (c : ℕ) (r : Request) (result : Result Unit ChannelFault) : Type 0 where
+  pub answer : MatchResult result (λ _. machine.request_refusal x.layer c r ≡ None)
+      (λ fault. machine.request_refusal x.layer c r ≡ Some (refusal_of fault))
+  pub layer : new.layer ≡ machine.request x.layer c r
+  pub held : new.held ≡ x.held
+  pub most : most_held new.layer ≡ most_held x.layer
+  pub kept : OnErr result (new ≡ x)
+
+most_as_before : (a : Inside) (x : Held) (place : ℕ) (new : Holder) → holding a ≡ x →
+    length (plain (set a.channels.items place new)) * (a.flow.window + 8) ≡ most_held x.layer
+most_as_before a x place new view =
+    ap (λ (n : ℕ). n * (a.flow.window + 8))
+    (plain_length (set a.channels.items place new) ∙ length-set a.channels.items place new ∙ sym (plain_length a.channels.items))
+    ∙ ap (λ (x : Held). most_held x.layer) view
+
+pub asked : (a : Inside) (x : Held) (c place : ℕ) (old new : Holder) (r : Request) (answer : Result Bool ChannelFault)
+    (after : Held) (result : Result Unit ChannelFault) → IsAt a x c place old →
+    Answers a.role a.flow old.channel r answer new.channel → new.held ≡ old.held → OnErr answer (new ≡ old) →
+    IsPassedOn (record { layer = changed a place new; held = buffers (set a.channels.items place new) }) answer after result →
+    IsAsked x after c r result
+asked a x c place old new r (Ok relink) after result at is same kept passed =
+    subst (λ (result : Result Unit ChannelFault). IsAsked x after c r result) (sym passed.0)
+    (record {
+      answer = allowed a x c place old new r relink at is;
+      layer = ap (λ (x : Held). x.layer) passed.1 ∙ done a x c place old new r relink at is;
+      held = ap (λ (x : Held). x.held) passed.1 ∙ same_held a x c place old new at same;
+      most = ap (λ (x : Held). most_held x.layer) passed.1 ∙ most_as_before a x place new at.view;
+      kept = tt;
+    })
+asked a x c place old new r (Err fault) after result at is same kept passed =
+    subst (λ (result : Result Unit ChannelFault). IsAsked x after c r result) (sym passed.0)
+    (record {
+      answer = told a x c place old new r fault (Err fault) refl at is;
+      layer = ap (λ (x : Held). x.layer) passed.1 ∙ refused a x c place old new r fault at is;
+      held = ap (λ (x : Held). x.held) passed.1 ∙ same_held a x c place old new at same;
+      most = ap (λ (x : Held). most_held x.layer) passed.1 ∙ most_as_before a x place new at.view;
+      kept = passed.1 ∙ same_layer a x c place old new at kept;
+    })
 
 -- ---- what a packet that is to go asks of the pool
 

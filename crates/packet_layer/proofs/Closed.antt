@@ -7,7 +7,7 @@ use Rattle.packet_codec.specs.ClearCause.{out_of_order}
 use Rattle.packet_codec.specs.Diagnostic.{no_information}
 use Rattle.data_transfer.specs.Packets.{Note, Reason, Closed}
 use Rattle.packet_channel.specs.Channel.{Channel, closed_channel, entered}
-use Rattle.packet_channel.specs.Channel.CallState.{Transfer}
+use Rattle.packet_channel.specs.Channel.ChannelState.{Transfer}
 use Rattle.packet_channel.specs.Held.{Channel as Holder}
 use Rattle.data_transfer.specs.declared.flow.Flow.{Flow}
 use Rattle.packet_layer.specs.Held.{plain, buffers, AllFit}

@@ -5,8 +5,8 @@ use Rattle.std.proofs.lemmas.List.{append-nil}
 use Rattle.link_timers.specs.declared.role.Role.{Role}
 use Rattle.data_transfer.specs.Packets.{Body, CallParts, Call, Note}
 use Rattle.data_transfer.specs.Traffic.{front}
-use Rattle.packet_channel.specs.Channel.CallState.{Ready, OwnWaiting, FarWaiting, Transfer, Collision, OwnClear}
-use Rattle.packet_channel.specs.Channel.{CallState, Channel, Step, Request, Refusal, unless, refusal, requested, carried_out, received, unreadable, clear_error}
+use Rattle.packet_channel.specs.Channel.ChannelState.{Ready, OwnWaiting, FarWaiting, Transfer, Collision, OwnClear}
+use Rattle.packet_channel.specs.Channel.{ChannelState, Channel, Step, Request, Refusal, unless, refusal, requested, carried_out, received, unreadable, clear_error}
 use Rattle.packet_channel.specs.Channel.Request.{Accept, Clearing, Resetting, Sending, Interrupting, Stopping, Taking, Releasing, Confirming}
 use Rattle.packet_layer.specs.Layer as machine
 use Rattle.packet_channel.specs.Done.{IsDone}
@@ -133,7 +133,7 @@ taking_done l c place ch new e h is_new =
     sym (step_at l c place ch (λ x. requested l.role l.flow x Taking) e h
     ∙ rw (is_new, facts.0, facts.1.0, append-nil l.notes) refl)
 
-ready_of : (s : CallState) (b : Bool) → is_ready s && b ≡ true → s ≡ Ready
+ready_of : (s : ChannelState) (b : Bool) → is_ready s && b ≡ true → s ≡ Ready
 ready_of Ready b h = refl
 ready_of OwnWaiting b h = absurd (cc)
 ready_of FarWaiting b h = absurd (cc)

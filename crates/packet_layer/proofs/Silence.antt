@@ -1,7 +1,7 @@
 -- Channels that have nothing for the link, and those that may have something.
 use Rattle.std.proofs.Common.{◌≡◌, ℕ, zero, suc, ◌+◌, Bool, true, false, List, [], ◌∷◌, ◌||◌, ◌&&◌, ◌==◌, ◌⊎◌, inl, inr}
 use Rattle.std.proofs.Common.{not, set, map, refl, sym, ap, subst, ◌∙◌, arith}
-use Rattle.std.specs.Prelude.{Option, Some, None, is_some, slice_get, replicate}
+use Rattle.std.specs.Prelude.{Option, Some, None, is_some, slice_get, replicate, if◌then◌else◌}
 use Rattle.std.specs.Vec.{with_item}
 use Rattle.std.proofs.lemmas.List.{length-set}
 use Rattle.std.proofs.lemmas.Bool.{eq-eqb, ne_eqb, cases_eq}
@@ -10,7 +10,7 @@ use Rattle.number_set.specs.declared.NumberSet.{NumberSet}
 use Rattle.data_transfer.specs.Packets.{Note}
 use Rattle.packet_channel.specs.Channel.{Channel, Step, closed_channel, entered, next_of}
 use Rattle.packet_channel.specs.Done.{IsDone}
-use Rattle.packet_channel.specs.Channel.CallState.{Transfer}
+use Rattle.packet_channel.specs.Channel.ChannelState.{Transfer}
 use Rattle.packet_channel.specs.Held.{Channel as Holder, Fits}
 use Rattle.data_transfer.specs.declared.flow.Flow.{Flow}
 use Rattle.packet_layer.specs.Held.{plain, AllFit}
@@ -78,20 +78,6 @@ layer_stepped a new place old ch st relink notes is puts_in there fits done =
       fits = touched.fits;
     }
 
--- one that has something is in the set
-pub spoke : (flow : Flow) (s : NumberSet) (chs : List Channel) (place : ℕ) (old new : Channel) →
-    OthersAreSilent flow s chs → slice_get chs place ≡ Some old → is_some (next_of flow old).body ≡ true →
-    OthersAreSilent flow s (set chs place new)
-spoke flow s chs place old new others found says = record {
-  silent = λ p x there out. by_place p x there out (cases_eq p place);
-}
-  where
-    by_place : (p : ℕ) (x : Channel) → slice_get (set chs place new) p ≡ Some x → has s p ≡ false →
-        (p ≡ place) ⊎ (p ≡ place → ⊥) → is_some (next_of flow x).body ≡ false
-    by_place p x there out (inl e) =
-        let silent = others.silent place old found (subst (λ (n : ℕ). has s n ≡ false) e out) in absurd (cc)
-    by_place p x there out (inr apart) = others.silent p x (sym (other_item chs p place new apart) ∙ there) out
-
 pub taken_out : (a b : Bool) → (a && not b) ≡ false → (b ≡ true) ⊎ (a ≡ false)
 taken_out a true h = inl refl
 taken_out true false h = absurd (cc)
@@ -120,20 +106,6 @@ quieted flow old new chs place ch others is found silent = record {
         subst (λ (y : Channel). is_some (next_of flow y).body ≡ false) same silent
     by_place p x there (inr out) = others.silent p x there out
 
-pub layer_spoke : (a : Inside) (place : ℕ) (old new : Holder) (served : ℕ) → IsLayer a →
-    slice_get a.channels.items place ≡ Some old → is_some (next_of a.flow old.channel).body ≡ true →
-    (Fits a.flow old → Fits a.flow new) →
-    IsLayer (record a { channels = with_item a.channels place new; served_last = served })
-layer_spoke a place old new served is found says fits = record {
-  flow = is.flow;
-  channels = omega (arith, is.channels, length-set a.channels.items place new);
-  others = subst (OthersAreSilent a.flow a.to_serve) (sym (plain_set a.channels.items place new))
-      (spoke a.flow a.to_serve (plain a.channels.items) place old.channel new.channel is.others
-      (plain_at a.channels.items place old found) says);
-  notes = is.notes;
-  fits = fits_after a.flow a.channels.items place old new is.fits found fits;
-}
-
 pub layer_quieted : (a : Inside) (rest : NumberSet) (place : ℕ) (ch new : Holder) → IsLayer a →
     ((n : ℕ) → has rest n ≡ (has a.to_serve n && not (n == place))) → slice_get a.channels.items place ≡ Some ch →
     is_some (next_of a.flow ch.channel).body ≡ false → new ≡ ch →
@@ -149,6 +121,71 @@ layer_quieted a rest place ch new is takes_out found silent same =
           (plain_at a.channels.items place ch found) silent);
       notes = is.notes;
       fits = subst (AllFit a.flow) as_before is.fits;
+    }
+
+-- one that is in the set exactly if it has something
+kept_there : {X : Type 0} (xs : List X) (i : ℕ) (old x : X) → slice_get xs i ≡ Some old → slice_get (set xs i x) i ≡ Some x
+kept_there [] i old x h = absurd (cc)
+kept_there (y ∷ ys) zero old x h = refl
+kept_there (y ∷ ys) (suc i) old x h = kept_there ys i old x h
+
+chosen : (b x y : Bool) → b ≡ true → (if b then x else y) ≡ x
+chosen true x y h = refl
+chosen false x y h = absurd (cc)
+
+other_chosen : (b x y : Bool) → b ≡ false → (if b then x else y) ≡ y
+other_chosen true x y h = absurd (cc)
+other_chosen false x y h = refl
+
+pub asked : (flow : Flow) (old new : NumberSet) (chs : List Channel) (place : ℕ) (before ch : Channel) (kept : Bool) →
+    OthersAreSilent flow old chs → ((n : ℕ) → has new n ≡ (if n == place then kept else has old n)) →
+    slice_get chs place ≡ Some before → kept ≡ is_some (next_of flow ch).body → OthersAreSilent flow new (set chs place ch)
+asked flow old new chs place before ch kept others is found says = record {
+  silent = λ p x there out. by_place p x there out (cases_eq p place);
+}
+  where
+    by_place : (p : ℕ) (x : Channel) → slice_get (set chs place ch) p ≡ Some x → has new p ≡ false →
+        (p ≡ place) ⊎ (p ≡ place → ⊥) → is_some (next_of flow x).body ≡ false
+    by_place p x there out (inl e) =
+        let here : slice_get (set chs place ch) p ≡ Some ch =
+        ap (λ (n : ℕ). slice_get (set chs place ch) n) e ∙ kept_there chs place before ch found in
+        let same : ch ≡ x = cc in
+        let taken : kept ≡ false = sym (chosen (p == place) kept (has old p) (eq-eqb p place e)) ∙ sym (is p) ∙ out in
+        subst (λ (y : Channel). is_some (next_of flow y).body ≡ false) same (sym says ∙ taken)
+    by_place p x there out (inr apart) =
+        others.silent p x (sym (other_item chs p place ch apart) ∙ there)
+        (sym (other_chosen (p == place) kept (has old p) (ne_eqb p place apart)) ∙ sym (is p) ∙ out)
+
+-- of a whole layer
+pub layer_asked : (a : Inside) (new : NumberSet) (place : ℕ) (old ch : Holder) (kept : Bool) (served : ℕ) → IsLayer a →
+    ((n : ℕ) → has new n ≡ (if n == place then kept else has a.to_serve n)) →
+    slice_get a.channels.items place ≡ Some old → kept ≡ is_some (next_of a.flow ch.channel).body →
+    (Fits a.flow old → Fits a.flow ch) →
+    IsLayer (record a { channels = with_item a.channels place ch; to_serve = new; served_last = served })
+layer_asked a new place old ch kept served is keeps there says fits = record {
+  flow = is.flow;
+  channels = omega (arith, is.channels, length-set a.channels.items place ch);
+  others = subst (OthersAreSilent a.flow new) (sym (plain_set a.channels.items place ch))
+      (asked a.flow a.to_serve new (plain a.channels.items) place old.channel ch.channel kept is.others keeps
+      (plain_at a.channels.items place old there) says);
+  notes = is.notes;
+  fits = fits_after a.flow a.channels.items place old ch is.fits there fits;
+}
+
+-- also where the step of its channel notes something
+pub layer_heard : (a : Inside) (new : NumberSet) (place : ℕ) (old ch : Holder) (st : Step) (relink kept : Bool)
+    (notes : List Note) → IsLayer a → ((n : ℕ) → has new n ≡ (if n == place then kept else has a.to_serve n)) →
+    slice_get a.channels.items place ≡ Some old → kept ≡ is_some (next_of a.flow ch.channel).body →
+    (Fits a.flow old → Fits a.flow ch) → IsDone st ch.channel relink notes →
+    IsLayer (record a { channels = with_item a.channels place ch; to_serve = new; notes = notes })
+layer_heard a new place old ch st relink kept notes is keeps there says fits done =
+    let after = layer_asked a new place old ch kept a.served_last is keeps there says fits in
+    record {
+      flow = after.flow;
+      channels = after.channels;
+      others = after.others;
+      notes = let few = done.few in omega (arith, few);
+      fits = after.fits;
     }
 
 -- closed channels have nothing

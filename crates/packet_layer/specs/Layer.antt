@@ -17,7 +17,7 @@ use Rattle.data_transfer.specs.Traffic.{Taken, front}
 use Rattle.packet_channel.specs.Channel.{Channel, Step, Request, Refusal, closed_channel, entered, error_cause}
 use Rattle.packet_channel.specs.Channel.{clear_error, received, unreadable, requested, refusal, has_flow, in_transfer}
 use Rattle.packet_channel.specs.Channel.{refused_if, may_accept}
-use Rattle.packet_channel.specs.Channel.CallState.{Transfer}
+use Rattle.packet_channel.specs.Channel.ChannelState.{Transfer}
 pub use Rattle.packet_channel.specs.Channel.{is_full, with_owed, passes_limit, owing, had_call, waits_for_call}
 pub use Rattle.packet_channel.specs.Channel.{waits_for_clear, ChannelNext, next_owed, next_of, is_ready, is_free}
 pub use Rattle.packet_channel.specs.Channel.{placing, channel_rests}

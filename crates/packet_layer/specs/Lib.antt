@@ -1,6 +1,7 @@
 pub mod Layer
 pub mod Held
 pub mod RequestView
+pub mod Answered
 pub mod Params
 pub mod RestartView
 pub mod Silence

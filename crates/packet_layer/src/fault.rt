@@ -5,7 +5,7 @@ use thiserror::Error;
 
 /// Why a layer was not made, in the order in which the faults are tested.
 #[derive(Clone, Copy, Debug, PartialEq, Eq, Error)]
-pub enum MakeFault {
+pub enum LayerFault {
     /// A parameter is out of its range.
     #[error("bad packet layer parameters")]
     BadParams,
@@ -14,14 +14,14 @@ pub enum MakeFault {
     OutOfMemory,
 }
 
-impl From<AllocError> for MakeFault {
+impl From<AllocError> for LayerFault {
     ghost use Rattle.std.specs.Prelude.{◌≡◌};
-    ghost use Rattle.packet_layer.specs.declared.fault.MakeFault.TheVariants.{OutOfMemory};
+    ghost use Rattle.packet_layer.specs.declared.fault.LayerFault.TheVariants.{OutOfMemory};
 
     ghost from_gives = { λ _ fault. fault ≡ OutOfMemory };
 
     fn from(_: AllocError) -> Self {
-        MakeFault::OutOfMemory
+        LayerFault::OutOfMemory
     }
 }
 

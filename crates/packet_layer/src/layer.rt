@@ -14,7 +14,7 @@ mod serving;
 mod sessions;
 mod timers;
 
-use crate::fault::MakeFault;
+use crate::fault::LayerFault;
 use crate::params::LayerParams;
 use crate::restart::{Phase, RestartPacket};
 use data_transfer::Flow;
@@ -70,7 +70,7 @@ impl Layer {
     ///
     /// `BadParams` comes if the channels are not 1 to 32 or the flow control parameters none that a line may have, and
     /// then `OutOfMemory` for want of memory.
-    pub fn new(alloc: Global, role: Role, params: LayerParams) -> Result<Layer, MakeFault>
+    pub fn new(alloc: Global, role: Role, params: LayerParams) -> Result<Layer, LayerFault>
         ensures { MatchResult result
             (λ layer. AreParams params.channels params.flow
             × (layer ≡ record {
@@ -127,7 +127,7 @@ impl Layer {
         self.notes.len()
     }
 
-    // The place of a channel among those of the line.
+    /// The place of a channel among those of the line.
     fn place(&self, channel: u16) -> Option<usize>
         ensures { MatchOption result (machine.channel_of self.now.layer channel ≡ None)
             (λ place. (place + 1 ≡ channel) × (place < length self.now.layer.channels)) }
@@ -140,7 +140,7 @@ impl Layer {
         }
     }
 
-    // The channel of this number, if it is one of the line.
+    /// The channel of this number, if it is one of the line.
     fn channel(&self, number: u16) -> Option<&Channel>
         ensures found { MatchOption result (machine.channel_of self.now.layer number ≡ None)
             (λ channel. machine.channel_of self.now.layer number ≡ Some channel.now.channel) }
@@ -151,7 +151,7 @@ impl Layer {
         Some(&self.channels[place])
     }
 
-    // The channel of this number, where the restart procedure is done.
+    /// The channel of this number, where the restart procedure is done.
     fn ready_channel(&self, number: u16) -> Option<&Channel>
         ensures { MatchOption result
             ((test : ChannelValue → Bool)
@@ -165,7 +165,7 @@ impl Layer {
         }
     }
 
-    // The end at which the channel with this place is seen.
+    /// The end at which the channel with this place is seen.
     #[tactic(auto, using(data_transfer::proofs::Windows::window_small, data_transfer::proofs::Windows::size_most))]
     fn end(&self, place: usize) -> End
         requires { place < length self.now.layer.channels }
@@ -182,7 +182,7 @@ impl Layer {
         }
     }
 
-    // Asks for a relink where a step of a channel does.
+    /// Asks for a relink where a step of a channel does.
     fn relink_if(&mut self, asked: bool)
         ensures { self.new ≡ record self.old {
           layer = record self.old.layer { relink = machine.set_if asked self.old.layer.relink };

@@ -156,7 +156,7 @@ impl LayerTimers {
         self.clears.bring(channel, layer.runs_own(Timer::Clear(channel)), PACKET_TICKS);
     }
 
-    // Whether no timer of a channel runs.
+    /// Whether no timer of a channel runs.
     fn is_empty(&self) -> bool
         ensures { IsTrue result ↔ ((channel : ℕ) → NoneRuns self.now channel) }
     {

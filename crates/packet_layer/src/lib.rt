@@ -12,7 +12,7 @@ pub use data_transfer::{
     DEFAULT_SIZE, Flow, Front, InterruptData, KeptPacket, SEND_QUEUE, Taken, TakenBuf, UserData,
     full_packets,
 };
-pub use fault::{CallFault, MakeFault};
+pub use fault::{CallFault, LayerFault};
 pub use layer::Layer;
 pub use layer_timers::{LayerTimers, Timer};
 pub use packet_channel::{

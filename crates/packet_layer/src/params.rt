@@ -1,9 +1,9 @@
 //! How a packet layer is to be made.
 ghost use Rattle.std.specs.Prelude.{◌≡◌, MatchResult};
 ghost use Rattle.packet_layer.specs.Params.{AreParams};
-ghost use Rattle.packet_layer.specs.declared.fault.MakeFault.TheVariants as make_fault;
+ghost use Rattle.packet_layer.specs.declared.fault.LayerFault.TheVariants as make_fault;
 
-use crate::fault::MakeFault;
+use crate::fault::LayerFault;
 use data_transfer::Flow;
 use packet_channel::MOST_CHANNELS;
 
@@ -21,13 +21,13 @@ pub struct LayerParams {
 
 impl LayerParams {
     /// `BadParams` comes if the channels are not 1 to 32 or the flow control parameters none that a line may have.
-    pub fn check(&self) -> Result<(), MakeFault>
+    pub fn check(&self) -> Result<(), LayerFault>
         ensures { MatchResult result
             (λ _. AreParams self.now.channels self.now.flow)
             (λ fault. (fault ≡ make_fault.BadParams) × (AreParams self.now.channels self.now.flow → ⊥)) }
     {
         if self.channels < 1 || self.channels > MOST_CHANNELS || !self.flow.is_allowed() {
-            return Err(MakeFault::BadParams);
+            return Err(LayerFault::BadParams);
         }
         Ok(())
     }

@@ -1,6 +1,6 @@
 pub mod Notes
 pub mod NoteView
-pub mod Line
+pub mod PadLine
 pub mod Ports
 pub mod PortView
 pub mod TakenView

@@ -27,10 +27,10 @@ use Rattle.pad_terminal.specs.declared.answers.Reply.TheVariants as reply
 use Rattle.pad_terminal.specs.declared.answers.TerminalRequest.{TerminalRequest}
 use Rattle.pad_terminal.specs.declared.answers.TerminalRequest.TheVariants as request
 use Rattle.pad_ports.specs.Notes.{Edited}
-use Rattle.pad_ports.specs.Line as line
-use Rattle.pad_ports.specs.declared.call.CallNote.{CallNote}
-use Rattle.pad_ports.specs.declared.call.CallNote.TheVariants as learnt
-use Rattle.pad_ports.specs.declared.line.PadLine.{PadLine}
+use Rattle.pad_ports.specs.PadLine as line
+use Rattle.pad_ports.specs.declared.call.PortNote.{PortNote}
+use Rattle.pad_ports.specs.declared.call.PortNote.TheVariants as learnt
+use Rattle.pad_ports.specs.PadLine.{PadLine}
 
 -- the terminal, the logical channel of its call, and the ticks left of its idle timer, where it runs
 pub record PortState : Type 0 where
@@ -242,7 +242,7 @@ printed a = a.port.terminal.output.text ++ text_taken (taken_of a) a.port.termin
 
 -- ---- what the terminal learns of its call
 
-abbrev pub channel_of : CallNote → ℕ
+abbrev pub channel_of : PortNote → ℕ
 channel_of (learnt.Connected channel) = channel
 channel_of (learnt.Cleared channel cause) = channel
 channel_of (learnt.Reset channel cause) = channel
@@ -255,7 +255,7 @@ has_channel (Some own) channel = own == channel
 abbrev pub connects : (channel : ℕ) → PortState → PortState
 connects channel p = record p { terminal = calls.connected p.terminal; call = Some channel }
 
-abbrev pub learns : CallNote → PortState → PortState
+abbrev pub learns : PortNote → PortState → PortState
 learns (learnt.Connected channel) p = connects channel p
 learns (learnt.Cleared channel cause) p =
     record p { terminal = calls.cleared cause p.terminal; call = None }

@@ -4,7 +4,7 @@ ghost use Rattle.pad_ports.specs.Ports.{channel_of};
 
 /// What a terminal learns of the call on a channel.
 #[derive(Clone, Copy)]
-pub enum CallNote {
+pub enum PortNote {
     /// The call is connected.
     Connected(u8),
     /// The call was cleared, with this cause.
@@ -13,15 +13,15 @@ pub enum CallNote {
     Reset(u8, u8),
 }
 
-impl CallNote {
+impl PortNote {
     /// The channel.
     pub fn channel(self) -> u8
         ensures { result ≡ channel_of self }
     {
         match self {
-            CallNote::Connected(channel)
-            | CallNote::Cleared(channel, _)
-            | CallNote::Reset(channel, _) => channel,
+            PortNote::Connected(channel)
+            | PortNote::Cleared(channel, _)
+            | PortNote::Reset(channel, _) => channel,
         }
     }
 }

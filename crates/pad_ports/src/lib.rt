@@ -3,14 +3,12 @@
 #![tactic(auto)]
 
 mod call;
-mod end;
 mod line;
 mod note;
 mod port;
 mod taken;
 
-pub use call::CallNote;
-pub use end::PadEnd;
+pub use call::PortNote;
 pub use line::PadLine;
 pub use note::{ChannelNote, EARLY_NOTES, MOST_NOTES, NotedAt, PadNote, PadNotes, TOLD_NOTES};
 pub use port::{MOST_TEXT, Port};

@@ -1,18 +1,21 @@
 //! The PAD's end of its line with its notes, and what a PAD asks of the calls there.
 ghost use Rattle.std.specs.Prelude.{◌≡◌, ◌≤◌, ◌<◌, ◌+◌, Some, length, MatchResult};
+ghost use Rattle.packet_channel.specs.Channel.{Request as ask};
+ghost use Rattle.packet_end.specs.PacketEnd as end_spec;
 ghost use Rattle.packet_layer.specs.Layer as machine;
 ghost use Rattle.packet_layer.specs.RequestView.{request_of, call_refusal_of};
 ghost use Rattle.pad_ports.specs.NoteView.{pad_note_of};
-ghost use Rattle.pad_ports.specs.Line as spec;
+ghost use Rattle.pad_ports.specs.PadLine as spec;
 ghost use Rattle.pad_ports.specs.TakenView.{maybe_taken};
 
-use crate::end::PadEnd;
 use crate::note::{ChannelNote, MOST_NOTES, PadNotes};
 use crate::taken::{PadData, PadTaken};
 use arrayvec::ArrayVec;
 use packet_codec::{Address, CallData};
-use packet_layer::{CallFault, ChannelFault, Request};
+use packet_end::PacketEnd;
+use packet_layer::{CallFault, ChannelFault, Request, Taken};
 use pad_terminal::CallCondition;
+use std::marker::Model;
 
 /// The user data of an interrupt.
 const INTERRUPT_OCTET: u8 = 1;
@@ -20,15 +23,27 @@ const INTERRUPT_OCTET: u8 = 1;
 /// The protocol with which the user data of a call begin (X.29 4.2).
 const PROTOCOL: [u8; 4] = [1, 0, 0, 0];
 
-/// The PAD's end of its line, and what the PAD notes.
+/// The PAD's end of its line, whose packets have at most 128 octets of user data, so that a terminal has room for each,
+/// and what the PAD notes. Code that changes the end has to show that its size stays.
 #[derive(Drop)]
 pub struct PadLine {
-    pub end: PadEnd,
+    pub end: PacketEnd,
     pub notes: PadNotes,
 }
 
+impl Model for PadLine {
+    ghost use Rattle.std.specs.Prelude.{◌≡◌};
+    ghost use Rattle.pad_ports.specs.PadLine.{PadLine as LineValue};
+
+    ghost Value = { LineValue };
+
+    ghost view = { λ l. record { end = l.end; notes = l.notes } };
+
+    ghost invariant = { λ l. l.end.layer.flow.size ≡ 128 };
+}
+
 impl PadLine {
-    // Asks something of a call, and notes it where it is not refused.
+    /// Asks something of a call, and notes it where it is not refused.
     fn ask(&mut self, channel: u8, request: &Request<'_>, note: ChannelNote)
         requires { length self.old.notes < MOST_NOTES }
         ensures line { self.new ≡ spec.asked channel (request_of request.now) (pad_note_of note) self.old }
@@ -143,12 +158,28 @@ impl PadLine {
         ensures room { length self.new.notes ≤ length self.old.notes + 1 }
         ensures told { self.new.end.notes ≡ self.old.end.notes }
     {
-        let taken = self.end.take(channel)?;
+        let taken = self.take_first(channel)?;
         self.notes.add(ChannelNote::Took {
             channel,
             taken: taken.copied(),
         });
         Some(taken)
+    }
+
+    /// Takes what waits first on a call, if anything does, from the end of the line.
+    fn take_first(&mut self, channel: u8) -> Option<PadTaken>
+        ensures taken { maybe_taken result ≡ machine.front_on self.old.end.layer channel }
+        ensures line { self.new ≡ record self.old { end = end_spec.asked self.old.end channel ask.Taking } }
+    {
+        match self.end.take(channel)? {
+            Taken::Interrupt(data) => Some(PadTaken::Interrupt(data)),
+            Taken::Data(data) => Some(PadTaken::Data(PadData::new(
+                data.octets(),
+                data.more(),
+                data.qualified(),
+                data.delivery(),
+            ))),
+        }
     }
 
     /// What a terminal must know of its call, which is on a channel. Without a call no packet and no interrupt is taken

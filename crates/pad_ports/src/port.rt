@@ -5,7 +5,7 @@ ghost use Rattle.pad_ports.specs.Ports as spec;
 mod asking;
 mod printing;
 
-use crate::call::CallNote;
+use crate::call::PortNote;
 use crate::line::PadLine;
 use pad_terminal::Terminal;
 pub use printing::MOST_TEXT;
@@ -86,16 +86,16 @@ impl Port {
     }
 
     /// Takes what became of the terminal's call.
-    pub fn learn(&mut self, note: CallNote)
+    pub fn learn(&mut self, note: PortNote)
         ensures { self.new ≡ spec.learns note self.old }
     {
         match note {
-            CallNote::Connected(channel) => self.connect(channel),
-            CallNote::Cleared(_, cause) => {
+            PortNote::Connected(channel) => self.connect(channel),
+            PortNote::Cleared(_, cause) => {
                 self.terminal.on_cleared(cause);
                 self.call = None;
             }
-            CallNote::Reset(_, cause) => self.terminal.on_reset(cause),
+            PortNote::Reset(_, cause) => self.terminal.on_reset(cause),
         }
     }
 
@@ -133,7 +133,7 @@ impl Port {
     }
 }
 
-// The ticks of an idle timer that is to run so long: one that runs goes on.
+/// The ticks of an idle timer that is to run so long: one that runs goes on.
 fn brought(time: Option<u8>, left: Option<u16>) -> Option<u16>
     ensures { result ≡ spec.brought time left }
 {

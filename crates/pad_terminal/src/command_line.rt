@@ -90,7 +90,7 @@ impl CommandLine {
         }
     }
 
-    // Edits the line or adds a key to it, and gives the echo.
+    /// Edits the line or adds a key to it, and gives the echo.
     fn typed(&mut self, function: Option<EditingFunction>, octet: u8) -> Echo
         ensures line { self.new ≡ (typed function octet self.old).line }
         ensures echo { result ≡ (typed function octet self.old).echo }
@@ -128,7 +128,7 @@ impl CommandLine {
     }
 }
 
-// Whether an octet ends the line.
+/// Whether an octet ends the line.
 fn is_end(octet: u8) -> bool
     ensures { result ≡ is_end octet }
 {

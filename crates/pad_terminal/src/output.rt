@@ -152,6 +152,7 @@ impl Output {
 
 /// Adds one octet that is echoed, laid out for a terminal that is at a column, to the text that waits, and gives the
 /// column that it is then at.
+#[inline(always)]
 fn echo_octet(octet: u8, params: &Params, column: u16, waiting: &mut HeapCircularBuffer<u8>) -> u16
     ensures text { waiting.new ≡ buffer (keep_last waiting.old.capacity
         (waiting.old.items ++ (shown (octet ∷ []) true params.now column).text)) waiting.old.capacity }
@@ -161,6 +162,21 @@ fn echo_octet(octet: u8, params: &Params, column: u16, waiting: &mut HeapCircula
         waiting.push_back(octet);
         return column.saturating_add(1);
     }
+    echo_laid_out(octet, params, column, waiting)
+}
+
+/// Does so for an octet that may take more than its own place.
+#[inline(never)]
+fn echo_laid_out(
+    octet: u8,
+    params: &Params,
+    column: u16,
+    waiting: &mut HeapCircularBuffer<u8>,
+) -> u16
+    ensures text { waiting.new ≡ buffer (keep_last waiting.old.capacity
+        (waiting.old.items ++ (shown (octet ∷ []) true params.now column).text)) waiting.old.capacity }
+    ensures column { result ≡ (shown (octet ∷ []) true params.now column).column }
+{
     let mut laid_out = ArrayVec::<u8, OCTET_LIMIT>::new();
     let next = Display::text(&[octet], true, params, column, &mut laid_out);
     waiting.extend_from_slice(laid_out.as_slice());

@@ -53,7 +53,7 @@ impl Settings {
         }
     }
 
-    // Puts other values in force. A terminal that may not stop its output has not stopped it.
+    /// Puts other values in force. A terminal that may not stop its output has not stopped it.
     fn put(&mut self, params: Params)
         ensures { self.new ≡ spec.with_params params self.old }
     {
@@ -72,7 +72,7 @@ impl Settings {
         Ok(())
     }
 
-    // Sets a parameter, and says what that came to.
+    /// Sets a parameter, and says what that came to.
     fn set_one(&mut self, number: u8, value: u8) -> Setting
         ensures settings { self.new ≡ spec.after_set number value self.old }
         ensures setting { result ≡ spec.setting_of number value self.old }
@@ -116,7 +116,7 @@ impl Settings {
         self.put(self.initial);
     }
 
-    // The value of a parameter, if there is one.
+    /// The value of a parameter, if there is one.
     fn read_one(&self, number: u8) -> Setting
         ensures { result ≡ spec.reading_of self.now.params number }
     {

@@ -171,7 +171,7 @@ impl Terminal {
         self.signal(&Signal::ResetIndication(cause));
     }
 
-    // Without the call no text is held, and no output is stopped.
+    /// Without the call no text is held, and no output is stopped.
     fn leave_call(&mut self)
         ensures { self.new ≡ calls.without_call self.old }
     {
@@ -179,7 +179,7 @@ impl Terminal {
         self.editor.discard();
     }
 
-    // Leaves the call, and shows why.
+    /// Leaves the call, and shows why.
     fn end_call(&mut self, signal: &Signal)
         ensures { self.new ≡ calls.ended signal.now self.old }
     {

@@ -20,7 +20,7 @@ use Rattle.net_events.specs.declared.event.Event.{Event}
 use Rattle.net_events.specs.declared.event.Event.TheVariants.{AtTerminal, Call, Ask, Take, Deliver, Lose, Expire}
 use Rattle.net_events.specs.declared.event.Event.TheVariants.{Relink, GivesUp, Restart}
 use Rattle.net_events.specs.declared.event.StepFault.{StepFault}
-use Rattle.net_turns.specs.Switching.{all_puts}
+use Rattle.node_events.specs.Switching.{all_puts}
 use Rattle.net_nodes.specs.Faults.{step_fault, IsLeftToNode}
 use Rattle.net_nodes.specs.Turns.{AtEnd}
 use Rattle.net_nodes.specs.Steps.{AtNode, AtSwitch, OnOwnLine, AtSwitchEnd, LoseStep, DeliverStep, ExpireStep, RelinkStep}

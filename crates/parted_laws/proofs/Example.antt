@@ -5,7 +5,7 @@ use Rattle.std.proofs.lemmas.Option.{same_Some, none-some}
 use Rattle.link_timers.specs.declared.role.Role.{Role}
 use Rattle.link_timers.specs.declared.role.Role.TheVariants.{Dte, Dce}
 use Rattle.lapb.specs.Machine.{Octets}
-use Rattle.line_nodes.specs.Node.{frames_of}
+use Rattle.user_nodes.specs.Node.{frames_of}
 use Rattle.frame_lines.specs.declared.line.Direction.{Direction}
 use Rattle.frame_lines.specs.declared.line.Direction.TheVariants.{FromDte, FromDce}
 use Rattle.frame_lines.specs.Lines.{memory_service, lossless_service}
@@ -20,13 +20,13 @@ use Rattle.network_laws.proofs.Switched.UsersAny.{loss_any}
 use Rattle.line_sim.proofs.Events.{made as made_between, elapsed}
 use Rattle.line_sim.proofs.Registered.{lost_registered}
 use Rattle.line_sim.proofs.CanBeServed.{standing}
-use Rattle.run_laws.specs.Run.{two_hosts, parameters, host, new_line, line_with, network, first_frames}
+use Rattle.run_laws.specs.LostFrameRun.{two_hosts, parameters, host, new_line, line_with, network, first_frames}
 use Rattle.run_laws.proofs.Running.{planned, made}
 use Rattle.parted_laws.specs.Processes.{Processes, PartChanges, SameWires, WireChanges, IsLeftOf, line_in, sender, on_way, AreOf}
 use Rattle.parted_laws.specs.Moves.{Carries, HandsOn, PutsOn}
 use Rattle.parted_laws.specs.Making.{IsMadePart, planned_line, AreMade, AreMadeOne}
 use Rattle.parted_laws.specs.Running.{ticks_in, HasHandled}
-use Rattle.parted_laws.specs.Run.{owner, line_of, part, first_down, frame, wires_with, parts_with, two, start, end, acts, SaysDone, RunExample}
+use Rattle.parted_laws.specs.PartedRun.{owner, line_of, part, first_down, frame, wires_with, parts_with, two, start, end, acts, SaysDone, RunExample}
 use Rattle.parted_laws.proofs.Left.{all_left}
 use Rattle.parted_laws.proofs.Carrying.{carried, hands_carry, puts_carry}
 use Rattle.parted_laws.proofs.Made.{makes_one}

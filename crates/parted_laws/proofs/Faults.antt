@@ -11,10 +11,10 @@ use Rattle.net_events.specs.declared.event.Event.TheVariants.{AtTerminal, Call, 
 use Rattle.net_events.specs.declared.event.Event.TheVariants.{Relink, GivesUp, Restart}
 use Rattle.net_events.specs.declared.event.StepFault.{StepFault}
 use Rattle.net_events.specs.declared.event.StepFault.TheVariants.{NoSuchNode, NoSuchCall}
-use Rattle.net_turns.specs.Outcomes.{event_fault}
+use Rattle.node_events.specs.Outcomes.{event_fault}
 use Rattle.net_nodes.specs.Faults.{refused, has_channel, at_node, at_terminal, where_there_is, stands_at, step_fault}
 use Rattle.net_nodes.specs.Places.{user_in}
-use Rattle.placed_nodes.specs.Node.{is_host, terminals_there}
+use Rattle.net_node.specs.Node.{is_host, terminals_there}
 use Rattle.parted_laws.specs.Processes.{Processes, line_in, AreOf}
 use Rattle.parted_laws.specs.Events.{IsHere, AreLost}
 use Rattle.parted_laws.specs.Events.AreLost.{none_is, one_is}

@@ -7,7 +7,7 @@ use Rattle.lapb.specs.Machine.{Octets}
 use Rattle.link_timers.specs.declared.role.Role.{Role}
 use Rattle.link_timers.specs.declared.role.Role.TheVariants.{Dte, Dce}
 use Rattle.call_records.specs.Register.{made_register}
-use Rattle.line_nodes.specs.Node.{NodeState, frames_of}
+use Rattle.user_nodes.specs.Node.{NodeState, frames_of}
 use Rattle.frame_lines.specs.declared.line.Direction.{Direction}
 use Rattle.frame_lines.specs.declared.line.Direction.TheVariants.{FromDte, FromDce}
 use Rattle.frame_lines.specs.Lines.{Flights, no_flights, flying, LineService, lossless_service, ArePut}

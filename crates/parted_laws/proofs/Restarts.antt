@@ -21,11 +21,11 @@ use Rattle.x25_pad.specs.Making as pad_making
 use Rattle.x25_pad.specs.declared.config.PadConfig.{PadConfig}
 use Rattle.switch_joins.specs.Joins.{Joined}
 use Rattle.joined_line.specs.declared.config.SwitchLineConfig.{SwitchLineConfig}
-use Rattle.joined_line.specs.Line.{without_joins}
+use Rattle.joined_line.specs.SwitchLine.{without_joins}
 use Rattle.joined_line.specs.Making.{made_line}
 use Rattle.switch_lines.specs.Lines.{SwitchLine}
 use Rattle.switch_lines.specs.Switch.{Switch}
-use Rattle.line_nodes.specs.Node.{NodeState, Pad, Host}
+use Rattle.user_nodes.specs.Node.{NodeState, Pad, Host}
 use Rattle.net_config.specs.NetPlan.{NewDte, NewPad, NewHost}
 use Rattle.parted_laws.specs.Restarting.{HasParams, HasTerminals, IsOfPlan, IsOfConfig, HasConfigs, EndForgets, NodeForgets, SwitchForgets}
 

@@ -8,7 +8,7 @@ use Rattle.net_events.specs.declared.event.Event.{Event}
 use Rattle.net_events.specs.declared.event.StepFault.{StepFault}
 use Rattle.net_nodes.specs.Happening.{Happens}
 use Rattle.network_laws.specs.PlacedTime.{elapsed_by}
-use Rattle.network_laws.specs.Switched.Promise.{NetworkPromise}
+use Rattle.network_laws.specs.Switched.InnerPromise.{NetworkPromise}
 use Rattle.network_laws.proofs.Switched.PromiseAny.{promise_any}
 use Rattle.network_laws.proofs.Switched.UsersAny.{loss_any}
 use Rattle.line_sim.specs.Between.{IsBetweenEvents}

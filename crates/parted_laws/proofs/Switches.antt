@@ -15,7 +15,7 @@ use Rattle.net_events.specs.AtSwitch.{SwitchEvent, SwitchHappened, LinesServed, 
 use Rattle.net_events.specs.AtSwitch as switch_event
 use Rattle.net_events.specs.Network.{PlacedSwitch, NetNode, Switching, NetLine, Network, StandsAtLines, place_at, own_role}
 use Rattle.net_events.specs.declared.answer.Answer.{Answer}
-use Rattle.net_turns.specs.Switching.{all_puts}
+use Rattle.node_events.specs.Switching.{all_puts}
 use Rattle.net_nodes.specs.Steps.{AtSwitch}
 use Rattle.network_laws.specs.PlacedTime.{by_place}
 use Rattle.network_laws.proofs.PlacedTime.{by_place_at, by_place_there, length-by_place}

@@ -12,7 +12,7 @@ use Rattle.packet_end.specs.PacketEnd.{PacketEnd}
 use Rattle.packet_end.specs.PacketEnd as end
 use Rattle.pad_ports.specs.Ports as port
 use Rattle.pad_ports.specs.Ports.{PortState}
-use Rattle.line_nodes.specs.Node.{NodeState, Pad, Host, node_elapsed}
+use Rattle.user_nodes.specs.Node.{NodeState, Pad, Host, node_elapsed}
 use Rattle.frame_lines.specs.declared.line.Direction.{Direction}
 use Rattle.frame_lines.specs.Lines.{flying}
 use Rattle.switch_lines.specs.Lines.{SwitchLine}

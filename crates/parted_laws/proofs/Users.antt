@@ -6,17 +6,17 @@ use Rattle.record_laws.proofs.Books.Basics.{number_is, set_here, set_elsewhere, 
 use Rattle.link_timers.specs.declared.role.Role.{Role}
 use Rattle.lapb.specs.Machine.{Octets}
 use Rattle.call_records.specs.Register.{book_at}
-use Rattle.line_nodes.specs.Node.{NodeState, drained, frames_of}
-use Rattle.line_nodes.specs.Turn.{Turn}
-use Rattle.line_nodes.specs.Notes.{NodeNotes, user_notes}
+use Rattle.user_nodes.specs.Node.{NodeState, drained, frames_of}
+use Rattle.user_nodes.specs.Turn.{Turn}
+use Rattle.user_nodes.specs.Notes.{NodeNotes, user_notes}
 use Rattle.frame_lines.specs.declared.line.Direction.{Direction}
 use Rattle.frame_lines.specs.Lines.{Flights, no_flights, flying, without_first, LineService, lossless_service, ArePut}
 use Rattle.net_events.specs.OneLine.{direction_of, direction_to}
 use Rattle.net_events.specs.NodeEvents.{NodeEvent, Hears, Restarts, LeftBy}
 use Rattle.net_events.specs.Network.{PlacedNode, NetNode, User, NetLine, Network, HappenedAt, place_at, net_turn, with_turn_at}
 use Rattle.net_events.specs.declared.answer.Answer.{Answer}
-use Rattle.net_turns.specs.Outcomes.{IsOutcome, text_of}
-use Rattle.net_turns.specs.Sends.{ArePutsOf}
+use Rattle.node_events.specs.Outcomes.{IsOutcome, text_of}
+use Rattle.node_events.specs.Sends.{ArePutsOf}
 use Rattle.net_nodes.specs.Turns.{AtEnd}
 use Rattle.parted_laws.specs.Processes.{Processes, PartChanges, SameWires, flights_in, flights_at, ends_of, AreOf}
 use Rattle.parted_laws.specs.Events.{IsCutOff, AreLost}

@@ -5,5 +5,5 @@ pub mod Running
 pub mod Blind
 pub mod FirstDue
 pub mod Making
-pub mod Run
+pub mod PartedRun
 pub mod Restarting

@@ -1,6 +1,6 @@
 -- Processes that each made the network of one plan are parts of one network.
 use Rattle.std.specs.Prelude.{◌≡◌, ℕ, slice_get, Some}
-use Rattle.line_nodes.specs.Node.{frames_of}
+use Rattle.user_nodes.specs.Node.{frames_of}
 use Rattle.frame_lines.specs.declared.line.Direction.{Direction}
 use Rattle.frame_lines.specs.Lines.{LineService, no_flights, lossless_service}
 use Rattle.net_config.specs.NetPlan.{NewLine, NetPlan, Planned, IsPlan}

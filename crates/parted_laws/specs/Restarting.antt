@@ -16,8 +16,8 @@ use Rattle.joined_line.specs.declared.config.SwitchLineConfig.{SwitchLineConfig}
 use Rattle.switch_lines.specs.Lines.{SwitchLine}
 use Rattle.switch_lines.specs.Making.{made}
 use Rattle.switch_lines.specs.Switch.{Switch, restart}
-use Rattle.line_nodes.specs.Node.{NodeState, Pad, Host}
-use Rattle.line_nodes.specs.NodeEvents.{restarted}
+use Rattle.user_nodes.specs.Node.{NodeState, Pad, Host}
+use Rattle.user_nodes.specs.NodeEvents.{restarted}
 use Rattle.net_config.specs.NetPlan.{NewDte, NewPad, NewHost}
 use Rattle.net_events.specs.Opening.{new_end}
 

@@ -8,7 +8,7 @@ use Rattle.net_events.specs.declared.event.StepFault.{StepFault}
 use Rattle.net_nodes.specs.Places.{IsStanding}
 use Rattle.net_nodes.specs.Happening.{Happens}
 use Rattle.network_laws.specs.PlacedTime.{elapsed_by}
-use Rattle.network_laws.specs.Switched.Promise.{NetworkPromise}
+use Rattle.network_laws.specs.Switched.InnerPromise.{NetworkPromise}
 use Rattle.line_sim.specs.Between.{IsBetweenEvents}
 use Rattle.parted_laws.specs.Processes.{Processes, PartChanges, SameWires, AreOf}
 use Rattle.parted_laws.specs.Moves.{Carries}

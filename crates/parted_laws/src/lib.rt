@@ -7,7 +7,7 @@ ghost use Rattle.parted_laws.specs.Running.{TickLaw, RunLaw};
 ghost use Rattle.parted_laws.specs.Making.{MakingLaw};
 ghost use Rattle.parted_laws.specs.Blind.{BlindLaw};
 ghost use Rattle.parted_laws.specs.FirstDue.{FirstDueLaw};
-ghost use Rattle.parted_laws.specs.Run.{RunExample};
+ghost use Rattle.parted_laws.specs.PartedRun.{RunExample};
 ghost use Rattle.parted_laws.specs.Restarting.{EndForgets, NodeForgets, SwitchForgets};
 
 use frame_lines::Line;

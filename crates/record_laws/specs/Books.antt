@@ -2,7 +2,7 @@ pub mod Told
 pub mod Headline
 pub mod Open
 pub mod Counts
-pub mod Rest
+pub mod BookRest
 pub mod Delivery
 pub mod AcceptedCalls
 pub mod Uses

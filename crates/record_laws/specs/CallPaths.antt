@@ -1,12 +1,12 @@
 pub mod World
 pub mod Seen
-pub mod Promise
+pub mod PathPromise
 pub mod Parts
 pub mod Forwards
-pub mod Law
+pub mod PathLaws
 pub mod Lines
 pub mod Ends
 pub mod OwnAddresses
-pub mod Rest
+pub mod PathRest
 pub mod Tree
 pub mod Paths

@@ -1,5 +1,5 @@
 pub mod Seen
-pub mod Promise
-pub mod Law
-pub mod Rest
+pub mod RegisterPromise
+pub mod RegisterLaws
+pub mod RegisterRest
 pub mod Giving

@@ -1,11 +1,11 @@
 //! What the register of a network with switches has of its calls, over paths of any length.
 ghost use Rattle.record_laws.specs.CallPaths.Forwards.{MadeForwardLaw, ForwardLaw, RelayedLaw};
-ghost use Rattle.record_laws.specs.CallPaths.Law.{MadeLaw, EventLaw, PromiseLaw, PathLaw, MadeAlikeLaw, WithoutSwitchLaw};
-ghost use Rattle.record_laws.specs.CallPaths.Law.{OwnedLaw, RecordsLaw, PresentLaw, CameLaw, PairedLaw};
+ghost use Rattle.record_laws.specs.CallPaths.PathLaws.{MadeLaw, EventLaw, PromiseLaw, PathLaw, MadeAlikeLaw, WithoutSwitchLaw};
+ghost use Rattle.record_laws.specs.CallPaths.PathLaws.{OwnedLaw, RecordsLaw, PresentLaw, CameLaw, PairedLaw};
 ghost use Rattle.record_laws.specs.CallPaths.Ends.{EndLaw, UserLaw, OpenLaw};
 ghost use Rattle.record_laws.specs.CallPaths.Lines.{MadeLinesLaw, TraceLaw, LinesLaw, WrittenLaw, BookCallsLaw, RecordedLaw};
 ghost use Rattle.record_laws.specs.CallPaths.OwnAddresses.{MadeOwnLaw, WriteOwnLaw, HandedOwnLaw, OwnRun};
-ghost use Rattle.record_laws.specs.CallPaths.Rest.{RestLaw};
+ghost use Rattle.record_laws.specs.CallPaths.PathRest.{RestLaw};
 ghost use Rattle.record_laws.specs.CallPaths.Tree.{HopsLaw, RoomLaw};
 ghost use Rattle.record_laws.specs.CallPaths.Paths.{MadePathsLaw, PathsLaw};
 

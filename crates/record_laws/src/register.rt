@@ -1,7 +1,7 @@
 //! What the register of a network has of each of its lines, whatever is written.
-ghost use Rattle.record_laws.specs.Registers.Law.{MadeLaw, WriteLaw, InTurnLaw, PromiseLaw, PresentLaw, OwnedLaw, NodeLaw};
-ghost use Rattle.record_laws.specs.Registers.Law.{CameLaw, PairedLaw, CalleeLaw, RecordsLaw};
-ghost use Rattle.record_laws.specs.Registers.Rest.{RestLaw};
+ghost use Rattle.record_laws.specs.Registers.RegisterLaws.{MadeLaw, WriteLaw, InTurnLaw, PromiseLaw, PresentLaw, OwnedLaw, NodeLaw};
+ghost use Rattle.record_laws.specs.Registers.RegisterLaws.{CameLaw, PairedLaw, CalleeLaw, RecordsLaw};
+ghost use Rattle.record_laws.specs.Registers.RegisterRest.{RestLaw};
 
 /// The law of the register of a network of many lines, over definitions alone: from the making on, and whatever is
 /// written at its lines, it has the records, pairs and channels of each line's book, numbered over the whole network.

@@ -76,7 +76,7 @@ impl ResetState {
     }
 }
 
-// The step of the row that the event meets.
+/// The step of the row that the event meets.
 fn met(role: Role, state: ResetState, event: ResetEvent) -> ResetStep
     requires { IsSome (reset_step role state event) }
     ensures { reset_step role state event ≡ Some result }

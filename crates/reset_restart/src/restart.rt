@@ -65,7 +65,7 @@ impl RestartState {
     }
 }
 
-// The step of the row that the event meets.
+/// The step of the row that the event meets.
 fn met(role: Role, state: RestartState, event: PacketType) -> RestartStep
     requires { IsSome (restart_step role state event) }
     ensures { restart_step role state event ≡ Some result }

@@ -4,8 +4,8 @@ use Rattle.std.specs.Prelude.{slice_get}
 use Rattle.std.proofs.lemmas.Option.{same_Some}
 use Rattle.link_timers.specs.declared.role.Role.{Role}
 use Rattle.link_timers.specs.declared.role.Role.TheVariants.{Dte, Dce}
-use Rattle.line_nodes.specs.Node.{NodeState, Pad, Host, frames_of}
-use Rattle.line_nodes.specs.Notes.{user_notes}
+use Rattle.user_nodes.specs.Node.{NodeState, Pad, Host, frames_of}
+use Rattle.user_nodes.specs.Notes.{user_notes}
 use Rattle.frame_lines.specs.Lines.{Flights, memory_service, ArePut}
 use Rattle.net_events.specs.OneLine.{direction_of}
 use Rattle.net_events.specs.NodeEvents.{NodeEvent, Hears, Expires, Relinks, Restarts, Calls, Asks, Refuses, Says}
@@ -16,8 +16,8 @@ use Rattle.net_events.specs.declared.answer.Answer.{Answer}
 use Rattle.net_events.specs.declared.answer.Outcome.{Outcome}
 use Rattle.net_events.specs.declared.answer.Outcome.TheVariants.{Called}
 use Rattle.net_events.proofs.Users.{same_user}
-use Rattle.net_turns.specs.Outcomes.{IsOutcome, CalledOn, text_of}
-use Rattle.net_turns.specs.Sends.{ArePutsOf}
+use Rattle.node_events.specs.Outcomes.{IsOutcome, CalledOn, text_of}
+use Rattle.node_events.specs.Sends.{ArePutsOf}
 use Rattle.net_nodes.specs.Turns.{AtEnd}
 use Rattle.net_nodes.specs.Steps.{AtNode}
 use Rattle.network_laws.specs.Switched.IsSwitched.{IsAny}

@@ -8,7 +8,7 @@ use Rattle.link_timers.specs.Role.{other_of}
 use Rattle.frame_lines.specs.declared.line.Direction.{Direction}
 use Rattle.frame_lines.specs.declared.line.Direction.TheVariants.{FromDte, FromDce}
 use Rattle.frame_lines.specs.Lines.{Flights, no_flights, flying, memory_service, ArePut}
-use Rattle.line_nodes.specs.Node.{NodeState, frames_of}
+use Rattle.user_nodes.specs.Node.{NodeState, frames_of}
 use Rattle.net_events.specs.Network.{Network}
 use Rattle.net_events.specs.OneLine.{direction_of}
 use Rattle.net_config.specs.NetPlan.{Planned, PlannedUser, PlannedSwitch, NewLine, NetPlan, IsPlan}

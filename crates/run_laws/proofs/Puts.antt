@@ -4,7 +4,7 @@ use Rattle.frame_lines.specs.declared.line.Direction.{Direction}
 use Rattle.frame_lines.specs.declared.line.Direction.TheVariants.{FromDte, FromDce}
 use Rattle.frame_lines.specs.Lines.{Flights, memory_service, flying, with_flying, IsPut, ArePut}
 use Rattle.net_events.specs.declared.answer.Put.{Put}
-use Rattle.net_turns.specs.Sends.{IsPutOf, ArePutsOf}
+use Rattle.node_events.specs.Sends.{IsPutOf, ArePutsOf}
 
 -- fewer than 64 are in flight, or not
 put_once : (d : Direction) (octets : List ℕ) (old new other : Flights) → IsPut memory_service d octets old new

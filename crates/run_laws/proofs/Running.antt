@@ -18,7 +18,7 @@ use Rattle.net_config.specs.NetPlan.{IsLinePlan, IsNodePlan, IsPlan}
 use Rattle.net_events.specs.Opening.{AreSent, NodeIsMade, LineIsMade, IsMade}
 use Rattle.net_events.proofs.Users.{same_planned}
 use Rattle.net_nodes.specs.Steps.{LoseStep}
-use Rattle.run_laws.specs.Run.{two_hosts, parameters, host, new_line, line_with, network, first_frames, RunExample}
+use Rattle.run_laws.specs.LostFrameRun.{two_hosts, parameters, host, new_line, line_with, network, first_frames, RunExample}
 
 -- ---- the plan
 

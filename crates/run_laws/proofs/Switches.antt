@@ -13,7 +13,7 @@ use Rattle.net_events.specs.NodeEvents.{NodeEvent}
 use Rattle.net_events.specs.declared.answer.Answer.{Answer}
 use Rattle.net_events.proofs.Users.{not_both, same_switch}
 use Rattle.net_nodes.specs.Turns.{AtEnd}
-use Rattle.net_turns.specs.Switching.{all_puts}
+use Rattle.node_events.specs.Switching.{all_puts}
 use Rattle.net_nodes.specs.Steps.{AtSwitch, OnOwnLine, AtSwitchEnd}
 use Rattle.network_laws.proofs.Switched.OwnLines.{own_or_none}
 use Rattle.line_sim.specs.Between.{IsBetweenEvents}

@@ -1,2 +1,2 @@
 pub mod Determined
-pub mod Run
+pub mod LostFrameRun

@@ -2,7 +2,7 @@
 #![tactic(auto)]
 
 ghost use Rattle.run_laws.specs.Determined.{MakingLaw, StepLaw, RunLaw};
-ghost use Rattle.run_laws.specs.Run.{RunExample};
+ghost use Rattle.run_laws.specs.LostFrameRun.{RunExample};
 
 /// The law of runs over lines in memory, over definitions alone. A configuration makes one network. An event at it has
 /// one answer and leaves one network. So a configuration and a list of events lead to one network: to the same nodes,

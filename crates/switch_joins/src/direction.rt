@@ -41,7 +41,7 @@ impl Model for Direction {
     ghost invariant = { λ d. (length d.held.items ≤ 32) × IsPart d.gathered };
 }
 
-// The count of packets that are not covered, after so many more were sent.
+/// The count of packets that are not covered, after so many more were sent.
 fn with_more(outstanding: u8, count: usize) -> u8
     ensures { result ≡ more_sent count outstanding }
 {
@@ -158,7 +158,7 @@ impl Direction {
         self.gathered = turned.gather(pool);
     }
 
-    // A packet was taken, with D = 1 or without, and so many packets were sent for it.
+    /// A packet was taken, with D = 1 or without, and so many packets were sent for it.
     fn send(&mut self, delivery: bool, count: usize)
         ensures direction { self.new ≡ record self.old {
           held = kept_places

@@ -42,7 +42,7 @@ impl Model for Joins {
     ghost invariant = { λ a. length a.places.items ≤ 32 };
 }
 
-// Whether nothing is gathered from any of these.
+/// Whether nothing is gathered from any of these.
 fn all_gather_nothing(places: &[ChannelJoin]) -> bool
     ensures { result ≡ list_all (λ o. gathers_nothing (joined_in o)) places.now }
 {
@@ -124,7 +124,7 @@ impl Joins {
         sizes.near() == sizes.far() && self.gathers_nothing_from(channel)
     }
 
-    // Whether nothing is gathered from a channel.
+    /// Whether nothing is gathered from a channel.
     fn gathers_nothing_from(&self, channel: u8) -> bool
         ensures empty { result ≡ gathers_nothing (nth_joined self.now.joined channel) }
         ensures nothing { OnTrue result (gathered_by (nth_joined self.now.joined channel) ≡ nothing_gathered) }
@@ -216,7 +216,7 @@ impl Joins {
         }
     }
 
-    // The place of a channel.
+    /// The place of a channel.
     fn place(&self, channel: u8) -> Option<usize>
         ensures { MatchOption result
             ((nth_joined self.now.joined channel ≡ None)

@@ -56,7 +56,7 @@ impl Plan {
         }
     }
 
-    // Whether a packet is longer than this, where so many octets are gathered.
+    /// Whether a packet is longer than this, where so many octets are gathered.
     fn is_long(self, gathered: usize, far: usize) -> bool
         ensures { result ≡ (nat_lt far self.size || (self.gathered_first && nat_lt far gathered)) }
     {
@@ -81,7 +81,7 @@ pub(crate) fn due(sizes: Sizes, gathered: usize, qualified: bool, packet: Outlin
     Some(usize::from(plan.gathered_first) + pieces(plan.rest_waits, rest, plan.size))
 }
 
-// How many octets are left after what goes first.
+/// How many octets are left after what goes first.
 fn rest_length(gathered_first: bool, gathered: usize, length: usize) -> usize
     requires gathered { gathered ≤ 1024 }
     requires length { length ≤ 65535 }

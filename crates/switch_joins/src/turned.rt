@@ -47,7 +47,7 @@ impl Model for Turned {
     ghost invariant = { IsTurned };
 }
 
-// Octets, and others after them.
+/// Octets, and others after them.
 fn together(octets: &[u8], others: &[u8]) -> ArrayVec<u8, MOST_OCTETS>
     requires { length octets.now + length others.now ≤ 1024 }
     ensures { result.items ≡ octets.now ++ others.now }
@@ -58,14 +58,14 @@ fn together(octets: &[u8], others: &[u8]) -> ArrayVec<u8, MOST_OCTETS>
     all
 }
 
-// How many packets go before the rest: one, if octets go first.
+/// How many packets go before the rest: one, if octets go first.
 fn packets_of(first: &[u8]) -> usize
     ensures { result ≡ (if length first.now == 0 then 0 else 1) }
 {
     usize::from(!first.is_empty())
 }
 
-// The first packet of this size of a packet with these octets and bits.
+/// The first packet of this size of a packet with these octets and bits.
 fn first_piece(
     octets: &[u8],
     size: usize,

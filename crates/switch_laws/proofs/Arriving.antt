@@ -8,8 +8,8 @@ use Rattle.data_transfer.specs.Packets.Body.{Call, Accepted, Clear, ClearConfirm
 use Rattle.data_transfer.specs.Packets.Note.{Incoming, Closed, Covered}
 use Rattle.data_transfer.specs.Traffic.{Heard, hears as hears_in}
 use Rattle.data_transfer.specs.Traffic.Heard.{Keeps, Confirms, Wrong}
-use Rattle.packet_channel.specs.Channel.{CallState, Channel, Step, received, unreadable, had_call, after_heard}
-use Rattle.packet_channel.specs.Channel.CallState.{Ready, OwnWaiting, FarWaiting, Transfer, Collision, OwnClear}
+use Rattle.packet_channel.specs.Channel.{ChannelState, Channel, Step, received, unreadable, had_call, after_heard}
+use Rattle.packet_channel.specs.Channel.ChannelState.{Ready, OwnWaiting, FarWaiting, Transfer, Collision, OwnClear}
 use Rattle.switch_joins.specs.declared.channels.SwitchChannel.{SwitchChannel}
 use Rattle.switch_laws.proofs.Outcomes.{ch_in}
 
@@ -97,7 +97,7 @@ d1 n role flow d (Interrupt octets) ch = call_before n d _ _ refl (heard_ends n 
 d1 n role flow d InterruptConfirmation ch = call_before n d _ _ refl (heard_ends n d role (ch_in Transfer false ch) (hears_in flow ch.traffic InterruptConfirmation))
 d1 n role flow d p ch = no_call_after n d (ch_in Transfer false ch) (received role flow d (ch_in Transfer false ch) p) refl
 
-received_in : (n : ℕ) (s : CallState) (rs : Bool) (role : Role) (flow : Flow) (d : ℕ) (p : Body) (ch : Channel) → Receives n role flow d (ch_in s rs ch) p
+received_in : (n : ℕ) (s : ChannelState) (rs : Bool) (role : Role) (flow : Flow) (d : ℕ) (p : Body) (ch : Channel) → Receives n role flow d (ch_in s rs ch) p
 received_in n Ready rs role flow d p ch = ready n role rs flow d p ch
 received_in n OwnWaiting rs role flow d p ch = own_waiting n role rs flow d p ch
 received_in n FarWaiting rs role flow d p ch = far_waiting n role rs flow d p ch
@@ -109,7 +109,7 @@ received_in n OwnClear rs role flow d p ch = own_clear n role rs flow d p ch
 pub received_calls : (n : ℕ) (role : Role) (flow : Flow) (d : ℕ) (p : Body) (ch : Channel) → StepCalls n d ch (received role flow d ch p)
 received_calls n role flow d p ch = received_in n ch.state ch.resetting role flow d p ch
 
-unreadable_in : (n : ℕ) (s : CallState) (rs : Bool) (role : Role) (d : ℕ) (unknown : Bool) (ch : Channel) → StepCalls n d (ch_in s rs ch) (unreadable role d unknown (ch_in s rs ch))
+unreadable_in : (n : ℕ) (s : ChannelState) (rs : Bool) (role : Role) (d : ℕ) (unknown : Bool) (ch : Channel) → StepCalls n d (ch_in s rs ch) (unreadable role d unknown (ch_in s rs ch))
 unreadable_in n Transfer false role d unknown ch = call_before n d _ _ refl tt
 unreadable_in n Transfer true role d unknown ch = no_call_after n d _ _ refl
 unreadable_in n s rs role d unknown ch = no_call_after n d _ _ refl

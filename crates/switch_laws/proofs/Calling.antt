@@ -7,9 +7,9 @@ use Rattle.data_transfer.specs.declared.flow.Flow.{Flow}
 use Rattle.packet_codec.specs.Diagnostic.{no_information}
 use Rattle.data_transfer.specs.Packets.{CallParts, Note, Reason}
 use Rattle.data_transfer.specs.Packets.Note.{Incoming, Connected, Closed, WasReset, InterruptConfirmed, Covered}
-use Rattle.packet_channel.specs.Channel.{CallState, Channel, Step, Request, Refusal, refusal, requested, unless, carried_out, owing, refused_if, had_call, may_accept, may_clear}
+use Rattle.packet_channel.specs.Channel.{ChannelState, Channel, Step, Request, Refusal, refusal, requested, unless, carried_out, owing, refused_if, had_call, may_accept, may_clear}
 use Rattle.packet_channel.specs.Channel.Request.{Accept, Clearing, Resetting, Sending, Interrupting, Stopping, Taking, Releasing, Confirming}
-use Rattle.packet_channel.specs.Channel.CallState.{Ready, OwnWaiting, FarWaiting, Transfer, Collision, OwnClear}
+use Rattle.packet_channel.specs.Channel.ChannelState.{Ready, OwnWaiting, FarWaiting, Transfer, Collision, OwnClear}
 use Rattle.packet_layer.specs.Layer.{Layer, channel_of, channel_given, on_found, request, call}
 use Rattle.packet_laws.proofs.Line.Lines.{nth_same}
 use Rattle.address_routes.specs.Routes.{RouteMap, line_for}
@@ -50,7 +50,7 @@ unless_call None role flow (Releasing n) ch e h = h
 unless_call None role flow Confirming ch e h = h
 
 -- a clear leaves none
-may_clear_call : (s : CallState) → may_clear s ≡ false → had_call s ≡ false
+may_clear_call : (s : ChannelState) → may_clear s ≡ false → had_call s ≡ false
 may_clear_call Ready e = refl
 may_clear_call OwnClear e = refl
 may_clear_call OwnWaiting e = absurd (true≢false e)

@@ -11,8 +11,8 @@ use Rattle.data_transfer.specs.Packets.Received.{Whole, Unknown, Faulty}
 use Rattle.data_transfer.specs.Packets.Note.{Closed}
 use Rattle.data_transfer.specs.Packets.Reason.{LinkLost, FarRestart, LocalFault}
 use Rattle.data_transfer.specs.Traffic.{Heard, hears}
-use Rattle.packet_channel.specs.Channel.{CallState, Channel, Step, received, unreadable, clear_error, had_call, in_transfer, owing}
-use Rattle.packet_channel.specs.Channel.CallState.{Ready, OwnWaiting, FarWaiting, Transfer, Collision, OwnClear}
+use Rattle.packet_channel.specs.Channel.{ChannelState, Channel, Step, received, unreadable, clear_error, had_call, in_transfer, owing}
+use Rattle.packet_channel.specs.Channel.ChannelState.{Ready, OwnWaiting, FarWaiting, Transfer, Collision, OwnClear}
 use Rattle.packet_layer.specs.Layer.{Layer, Phase, Timer, nth_channel, channel_of, closing_notes, on_found, on_channel, on_timer, expired, restart_packet, unread, runs}
 use Rattle.packet_layer.specs.Layer.Phase.{NoSession, OwnRestart, PacketReady}
 use Rattle.packet_layer.specs.Layer.Timer.{RestartTimer, CallTimer, ResetTimer, ClearTimer}
@@ -63,7 +63,7 @@ pub data Effect (f : ℕ → Leg → Leg) (l : Layer) (notes : List Note) : Type
 
 -- ---- the three steps
 
-epoch_kept : (s : CallState) (rs : Bool) (h : Heard) (e : Epoch) → heard_epoch s rs h e ≡ e ⊎ (in_transfer s ≡ true)
+epoch_kept : (s : ChannelState) (rs : Bool) (h : Heard) (e : Epoch) → heard_epoch s rs h e ≡ e ⊎ (in_transfer s ≡ true)
 epoch_kept Ready rs h e = inl refl
 epoch_kept OwnWaiting rs h e = inl refl
 epoch_kept FarWaiting rs h e = inl refl
@@ -91,7 +91,7 @@ mishears_step d unknown = record {
 }
 
 clear_not_transfer : {X : Type 0} → OwnClear ≡ Transfer → X
-clear_not_transfer e = absurd (true≢false (sym (ap (λ (s : CallState). in_transfer s) e)))
+clear_not_transfer e = absurd (true≢false (sym (ap (λ (s : ChannelState). in_transfer s) e)))
 
 clears_step : (d : ℕ) → IsStep d (λ s. clear_error s.role d no_information true s.channel) (λ g. g.epoch)
 clears_step d = record {

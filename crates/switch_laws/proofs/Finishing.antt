@@ -5,7 +5,7 @@ use Rattle.std.specs.List.{list_any}
 use Rattle.std.proofs.lemmas.Option.{none-some, same_Some}
 use Rattle.lapb.specs.Machine.{can_offer}
 use Rattle.data_transfer.specs.Packets.{Packet}
-use Rattle.packet_channel.specs.Channel.{Channel, CallState, had_call, Request, may_accept, waits_for_call}
+use Rattle.packet_channel.specs.Channel.{Channel, ChannelState, had_call, Request, may_accept, waits_for_call}
 use Rattle.packet_layer.specs.Layer.{Layer, next_packet, channel_of, unread, link_down}
 use Rattle.packet_end.specs.PacketEnd.{PacketEnd, begun, relinked, with_next, offered, all_offered, settled, elapsed}
 use Rattle.address_routes.specs.Routes.{RouteMap}
@@ -28,7 +28,7 @@ use Rattle.switch_laws.specs.Steps.Step.{Settles}
 use Rattle.switch_laws.specs.EventSteps.{relayed_first_steps, acted_steps, relinked_steps, all_relinked_steps, offered_steps, rounds_steps, finished_steps, event_acts}
 use Rattle.switch_laws.specs.Joined.{WaitsFor, IsPair, IsSwitch, Reached, Becomes, HasRelayedAll, has_nth, has_place_on}
 use Rattle.switch_laws.specs.Joined.IsPair.{connected, waiting}
-use Rattle.switch_laws.specs.Law.{TurnLaw}
+use Rattle.switch_laws.specs.RelayLaws.{TurnLaw}
 use Rattle.switch_laws.proofs.Layers.{all_close}
 use Rattle.switch_lines.specs.Lines.{joined_at}
 use Rattle.switch_laws.specs.Stays.{IsNone, OthersStay, relinked_in}
@@ -52,12 +52,12 @@ use Rattle.switch_lines.proofs.Places.{joined_kept, sizes_same}
 -- ---- a packet goes to a link
 
 waits_gave : (b : Bool) (g h : Leg) → IsCallLeg g → WaitsFor b g h → WaitsFor b (gave g) h
-waits_gave true g h i w = record { can_accept = ap (λ (s : CallState). may_accept g.role s) (leg_gave g i.leg).state ∙ w.can_accept; waits = w.waits }
-waits_gave false g h i w = record { can_accept = w.can_accept; waits = ap (λ (s : CallState). waits_for_call g.role s) (leg_gave g i.leg).state ∙ w.waits }
+waits_gave true g h i w = record { can_accept = ap (λ (s : ChannelState). may_accept g.role s) (leg_gave g i.leg).state ∙ w.can_accept; waits = w.waits }
+waits_gave false g h i w = record { can_accept = w.can_accept; waits = ap (λ (s : ChannelState). waits_for_call g.role s) (leg_gave g i.leg).state ∙ w.waits }
 
 waits_gave_other : (b : Bool) (g h : Leg) → IsCallLeg h → WaitsFor b g h → WaitsFor b g (gave h)
-waits_gave_other true g h i w = record { can_accept = w.can_accept; waits = ap (λ (s : CallState). waits_for_call h.role s) (leg_gave h i.leg).state ∙ w.waits }
-waits_gave_other false g h i w = record { can_accept = ap (λ (s : CallState). may_accept h.role s) (leg_gave h i.leg).state ∙ w.can_accept; waits = w.waits }
+waits_gave_other true g h i w = record { can_accept = w.can_accept; waits = ap (λ (s : ChannelState). waits_for_call h.role s) (leg_gave h i.leg).state ∙ w.waits }
+waits_gave_other false g h i w = record { can_accept = ap (λ (s : ChannelState). may_accept h.role s) (leg_gave h i.leg).state ∙ w.can_accept; waits = w.waits }
 
 pair_gave : (g h : Leg) (j k : Joined) → IsCallLeg g → IsPair g h j k → IsPair (gave g) h j k
 pair_gave g h j k i (connected c) =

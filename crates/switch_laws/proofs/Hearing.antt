@@ -7,8 +7,8 @@ use Rattle.data_transfer.specs.Packets.Note.{Covered}
 use Rattle.data_transfer.specs.Packets.Body.{Clear, Data, Interrupt, InterruptConfirmation, ReceiveReady, ReceiveNotReady, Reset, ResetConfirmation}
 use Rattle.data_transfer.specs.Traffic.{Traffic, Heard, hears as hears_in, confirming}
 use Rattle.data_transfer.specs.Traffic.Heard.{Keeps, Confirms, Wrong}
-use Rattle.packet_channel.specs.Channel.{CallState, received, unreadable, in_transfer, after_heard, moved as with_traffic}
-use Rattle.packet_channel.specs.Channel.CallState.{Transfer}
+use Rattle.packet_channel.specs.Channel.{ChannelState, received, unreadable, in_transfer, after_heard, moved as with_traffic}
+use Rattle.packet_channel.specs.Channel.ChannelState.{Transfer}
 use Rattle.packet_channel.specs.Channel.Request.{Confirming}
 use Rattle.packet_laws.specs.History.{logged_heard}
 use Rattle.packet_laws.specs.Counts.{NamesAfter, NamesCounts}
@@ -25,11 +25,11 @@ use Rattle.switch_laws.proofs.Ways.{Near, near_seen, far_seen, right_beside, fre
 use Rattle.switch_laws.proofs.Joins.{reset_right}
 
 -- the join with this state of the leg b
-abbrev pub b_in : CallState → Bool → Join → Join
+abbrev pub b_in : ChannelState → Bool → Join → Join
 b_in s rs j = record j { b = record j.b { channel = record j.b.channel { state = s; resetting = rs } } }
 
-not_transfer : (s : CallState) → in_transfer s ≡ false → s ≡ Transfer → {X : Type 0} → X
-not_transfer s f e = absurd (true≢false (sym (ap (λ (t : CallState). in_transfer t) e) ∙ f))
+not_transfer : (s : ChannelState) → in_transfer s ≡ false → s ≡ Transfer → {X : Type 0} → X
+not_transfer s f e = absurd (true≢false (sym (ap (λ (t : ChannelState). in_transfer t) e) ∙ f))
 
 -- ---- what is kept
 
@@ -212,7 +212,7 @@ in_transfer_ false c p j = in_d1 c p j
 
 pub hears_right : (c : ℕ) (p : Body) (j : Join) → Hears c p j
 hears_right c p j e i =
-    subst (λ (s : CallState). Hears c p (b_in s j.b.channel.resetting j)) (sym i.there.holds.far_call) (in_transfer_ j.b.channel.resetting c p j) e i
+    subst (λ (s : ChannelState). Hears c p (b_in s j.b.channel.resetting j)) (sym i.there.holds.far_call) (in_transfer_ j.b.channel.resetting c p j) e i
 
 -- ---- an unreadable packet
 
@@ -225,4 +225,4 @@ mishears_in false c unknown j e i = reset_right _ _ true _ (b_in Transfer false 
 
 pub mishears_right : (c : ℕ) (unknown : Bool) (j : Join) → Mishears c unknown j
 mishears_right c unknown j e i =
-    subst (λ (s : CallState). Mishears c unknown (b_in s j.b.channel.resetting j)) (sym i.there.holds.far_call) (mishears_in j.b.channel.resetting c unknown j) e i
+    subst (λ (s : ChannelState). Mishears c unknown (b_in s j.b.channel.resetting j)) (sym i.there.holds.far_call) (mishears_in j.b.channel.resetting c unknown j) e i

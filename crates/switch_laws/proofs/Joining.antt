@@ -7,7 +7,7 @@ use Rattle.packet_codec.specs.ClearCause as clear_cause
 use Rattle.packet_codec.specs.Diagnostic.{no_information}
 use Rattle.data_transfer.specs.Packets.{Note, Reason}
 use Rattle.data_transfer.specs.Packets.Note.{Incoming, Connected, Closed, WasReset, InterruptConfirmed, Covered}
-use Rattle.packet_channel.specs.Channel.{CallState, Channel, Step, had_call}
+use Rattle.packet_channel.specs.Channel.{ChannelState, Channel, Step, had_call}
 use Rattle.packet_layer.specs.Layer.{Layer, channel_of, closing_notes}
 use Rattle.packet_laws.specs.History.{Epoch}
 use Rattle.address_routes.specs.Routes.{RouteMap}
@@ -52,7 +52,7 @@ closed_closing n c reason (x ∷ xs) ls none = by_call (had_call x.state) (close
     by_call true i = (λ h. absurd (none c h), i)
     by_call false i = i
 
-of_last : (c : ℕ) (role : Role) (s : CallState) (ns : List Note) → AreOf c role s ns → IncomingLast ns
+of_last : (c : ℕ) (role : Role) (s : ChannelState) (ns : List Note) → AreOf c role s ns → IncomingLast ns
 of_last c role s [] i = tt
 of_last c role s (Incoming d parts ∷ ns) i = i.1.1
 of_last c role s (Connected d ∷ ns) i = of_last c role s ns i.1
@@ -61,7 +61,7 @@ of_last c role s (WasReset d cause diagnostic reason ∷ ns) i = of_last c role 
 of_last c role s (InterruptConfirmed d ∷ ns) i = of_last c role s ns i.1
 of_last c role s (Covered d k ∷ ns) i = of_last c role s ns i.1
 
-of_closing : (n d : ℕ) (role : Role) (s : CallState) (ns : List Note) (ls : List SwitchLine) → AreOf d role s ns → (HasCall ls (at n d) → EndsArrive n d ns) → Closing n ns ls
+of_closing : (n d : ℕ) (role : Role) (s : ChannelState) (ns : List Note) (ls : List SwitchLine) → AreOf d role s ns → (HasCall ls (at n d) → EndsArrive n d ns) → Closing n ns ls
 of_closing n d role s [] ls i f = tt
 of_closing n d role s (Incoming c parts ∷ ns) ls i f = subst (λ (xs : List Note). Closing n xs ls) (sym i.1.1) tt
 of_closing n d role s (Connected c ∷ ns) ls i f = of_closing n d role s ns ls i.1 f
@@ -139,7 +139,7 @@ calls_effect n f l ls ms w v notes eff got h i all = by_effect eff
         state_is = ap (λ (s : Shown). s.channel.state) (ap (λ (g : Leg). shown_of g) leg_is ∙ opened_shown (st (shown_of (w p))).owes _)
 
         stepped_call : HasCall ms p → had_call (st (shown_of (w p))).channel.state ≡ true
-        stepped_call c = ap (λ (s : CallState). had_call s) (sym state_is) ∙ now p c
+        stepped_call c = ap (λ (s : ChannelState). had_call s) (sym state_is) ∙ now p c
 
         at_p : HasCall ms p → (is_some (joined_at ms p) ≡ true) ⊎ Arrives n (st (shown_of (w p))).notes p
         at_p c = elim ((is.calls n (shown_of (w p))).begins (stepped_call c)) [ inl old ↦ inl (before p c old) | inr a ↦ inr a ]

@@ -5,7 +5,7 @@ use Rattle.data_transfer.specs.declared.flow.Flow.{Flow}
 use Rattle.data_transfer.specs.Flow.{IsFlow}
 use Rattle.data_transfer.specs.Packets.{Body}
 use Rattle.data_transfer.specs.Traffic.{Traffic, fresh, interrupt_pending}
-use Rattle.packet_channel.specs.Channel.{CallState, Refusal, refusal, refused_if, in_transfer}
+use Rattle.packet_channel.specs.Channel.{ChannelState, Refusal, refusal, refused_if, in_transfer}
 use Rattle.packet_channel.specs.Channel.Request.{Resetting}
 use Rattle.packet_laws.specs.History.{Epoch, empty_epoch}
 use Rattle.switch_joins.specs.Turning.{Sizes, items_gathered}
@@ -71,7 +71,7 @@ join_begins ra rb fa fb oa ob la lb = record { there = begins_there ra rb fa fb 
 near_gave : (g h : Leg) → Gives g h → near_seen h ≡ near_seen g
 near_gave g h i =
     ap (λ (w : Flow). record (near_seen h) { size = w.size }) i.flow
-    ∙ (ap (λ (s : CallState). record (near_seen h) { size = g.flow.size; state = s }) i.state
+    ∙ (ap (λ (s : ChannelState). record (near_seen h) { size = g.flow.size; state = s }) i.state
     ∙ (ap (λ (b : List Epoch). record (near_seen h) { size = g.flow.size; state = g.channel.state; before = b }) i.before
     ∙ (ap (λ (e : Epoch). record (near_seen g) { part = taken_part e; interrupt_taken = h.channel.traffic.interrupt_taken }) i.epoch
     ∙ ap (λ (b : Bool). record (near_seen g) { interrupt_taken = b }) i.flags.taken)))
@@ -79,7 +79,7 @@ near_gave g h i =
 far_gave : (g h : Leg) → Gives g h → far_seen h ≡ far_seen g
 far_gave g h i =
     ap (λ (w : Flow). record (far_seen h) { size = w.size }) i.flow
-    ∙ (ap (λ (s : CallState). record (far_seen h) { size = g.flow.size; state = s }) i.state
+    ∙ (ap (λ (s : ChannelState). record (far_seen h) { size = g.flow.size; state = s }) i.state
     ∙ (ap (λ (b : List Epoch). record (far_seen h) { size = g.flow.size; state = g.channel.state; before = b }) i.before
     ∙ (ap (λ (e : Epoch). record (far_seen g) { part = sent_part e; pending = interrupt_pending h.channel.traffic }) i.epoch
     ∙ ap (λ (b : Bool). record (far_seen g) { pending = b }) i.flags.pending)))
@@ -158,7 +158,7 @@ reset_right cause diagnostic r owed j i = by_resetting j.a.channel.resetting ref
   where
     refused_as : (b : Bool) → j.a.channel.resetting ≡ b → refusal j.a.role j.a.flow j.a.channel (Resetting cause diagnostic) ≡ refused_if b Refusal.IsResetting None
     refused_as b e =
-        ap (λ (s : CallState). refused_if (not (in_transfer s)) Refusal.NoCall (refused_if j.a.channel.resetting Refusal.IsResetting None)) i.there.holds.near_call
+        ap (λ (s : ChannelState). refused_if (not (in_transfer s)) Refusal.NoCall (refused_if j.a.channel.resetting Refusal.IsResetting None)) i.there.holds.near_call
         ∙ ap (λ (x : Bool). refused_if x Refusal.IsResetting None) e
 
     by_resetting : (b : Bool) → j.a.channel.resetting ≡ b → IsJoin (record { a = asked (Resetting cause diagnostic) j.a; b = anew r owed j.b; there = new_direction; back = new_direction })

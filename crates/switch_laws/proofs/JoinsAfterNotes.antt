@@ -6,8 +6,8 @@ use Rattle.link_timers.specs.declared.role.Role.TheVariants.{Dte, Dce}
 use Rattle.data_transfer.specs.Packets.{Note, Reason}
 use Rattle.data_transfer.specs.Packets.Note.{Incoming, Connected, Closed, WasReset, InterruptConfirmed, Covered}
 use Rattle.data_transfer.specs.Traffic.{Traffic, interrupt_pending}
-use Rattle.packet_channel.specs.Channel.{CallState, Step, Refusal, refused_if, may_accept, waits_for_call, had_call, in_transfer, entered}
-use Rattle.packet_channel.specs.Channel.CallState.{Ready, OwnWaiting, FarWaiting, Transfer, Collision, OwnClear}
+use Rattle.packet_channel.specs.Channel.{ChannelState, Step, Refusal, refused_if, may_accept, waits_for_call, had_call, in_transfer, entered}
+use Rattle.packet_channel.specs.Channel.ChannelState.{Ready, OwnWaiting, FarWaiting, Transfer, Collision, OwnClear}
 use Rattle.packet_channel.specs.Channel.Request.{Accept}
 use Rattle.packet_laws.specs.History.{Epoch, empty_epoch}
 use Rattle.packet_laws.specs.Readable.{Every}
@@ -93,7 +93,7 @@ untold_first routes note n c d ns ls w e none h =
     subst (λ (o : Option Joined). Becomes (acts_of_all (told_steps o note (at n d) ls ++ heed_all_steps routes n ns (told_of o note (at n d) ls)) ls) ls w (heed_all routes n ns (told_of o note (at n d) ls)))
     (sym (ap (λ (k : ℕ). joined_at ls (at n k)) e ∙ none)) h
 
-pub heeds_alone : (routes : RouteMap) (n c : ℕ) (s : CallState) (role : Role) (ns : List Note) (ls : List SwitchLine) (w : World) → AreOf c role s ns → IsSwitchBefore n ns ls w
+pub heeds_alone : (routes : RouteMap) (n c : ℕ) (s : ChannelState) (role : Role) (ns : List Note) (ls : List SwitchLine) (w : World) → AreOf c role s ns → IsSwitchBefore n ns ls w
     → joined_at ls (at n c) ≡ None → is_some (shown_at (layers_of ls) (at n c)) ≡ true → role ≡ (w (at n c)).role → s ≡ (w (at n c)).channel.state
     → Heeded routes n ns ls w
 heeds_alone routes n c s role [] ls w of i none there r e = becomes_same ls ls w refl (always n ls w i)
@@ -102,7 +102,7 @@ heeds_alone routes n c s role (Incoming d parts ∷ ns) ls w of i none there r e
     (subst (λ (ss : List steps.Step). Becomes (acts_of_all ss ls) ls w (heed routes n (Incoming d parts) ls)) (sym (append-nil (heed_steps routes n (Incoming d parts) ls)))
     (subst (λ (k : ℕ). Becomes (acts_of_all (heed_steps routes n (Incoming k parts) ls) ls) ls w (heed routes n (Incoming k parts) ls)) (sym of.0)
     (incoming_right routes n c parts ls w (always n ls w (fewer n (Incoming d parts ∷ ns) [] ls w (λ x h. subst (λ (more : List Note). IsOver n more x) of.1.1 h) i)) none there
-    (ap₂ (λ (y : Role) (z : CallState). may_accept y z) (sym r) (sym e) ∙ of.1.0))))
+    (ap₂ (λ (y : Role) (z : ChannelState). may_accept y z) (sym r) (sym e) ∙ of.1.0))))
 heeds_alone routes n c s role (Connected d ∷ ns) ls w of i none there r e =
     untold_first routes (Connected d) n c d ns ls w of.0 none (heeds_alone routes n c s role ns ls w of.1 (fewer n (Connected d ∷ ns) ns ls w (λ x h. h) i) none there r e)
 heeds_alone routes n c s role (Closed d cause diagnostic reason ∷ ns) ls w of i none there r e =
@@ -176,7 +176,7 @@ start_joined g h ig ih a b s t = record { there = start_there g h ig ih a b s t;
 accepted_leg : (g : Leg) → may_accept g.role g.channel.state ≡ true → asked Accept g ≡ asked_unless None Accept g
 accepted_leg g e = asked_as Accept g (ap (λ (b : Bool). refused_if (not b) Refusal.NoCall None) e)
 
-pub never_both : (role : Role) (s : CallState) → may_accept role s ≡ true → waits_for_call role s ≡ true → ⊥
+pub never_both : (role : Role) (s : ChannelState) → may_accept role s ≡ true → waits_for_call role s ≡ true → ⊥
 never_both Dte Ready a e = true≢false (sym e)
 never_both Dce Ready a e = true≢false (sym e)
 never_both Dte OwnWaiting a e = true≢false (sym a)
@@ -465,7 +465,7 @@ comes_waiting {acts} routes n c ls ms w v st e j k came i s new_here new_there w
     now : WaitsFor j.came_in (v p) (v q)
     now =
         subst (λ (h : Leg). WaitsFor j.came_in (v p) h) (sym ((came.touches p).legs q (apart_turned p q s.apart) (apart_turned p q s.apart)))
-        (waits_again j.came_in (w p) (v p) (w q) waiting_ callee (ap₂ (λ (x : Role) (y : CallState). waits_for_call x y) came.same_role came.state ∙ still))
+        (waits_again j.came_in (w p) (v p) (w q) waiting_ callee (ap₂ (λ (x : Role) (y : ChannelState). waits_for_call x y) came.same_role came.state ∙ still))
 
 comes_pair : {acts : List Act} (routes : RouteMap) (n c : ℕ) (ls ms : List SwitchLine) (w v : World) (st : Step) (e : Epoch) (j k : Joined) → e ≡ (w (at n c)).epoch ⊎ (in_transfer (w (at n c)).channel.state ≡ true)
     → Came acts n c ls w st e ms v → IsSwitch ls w → Pairing ls (at n c) j k → IsPair (w (at n c)) (w j.other) j k → Outcome c (w (at n c)).role (w (at n c)).channel st
@@ -473,11 +473,11 @@ comes_pair : {acts : List Act} (routes : RouteMap) (n c : ℕ) (ls ms : List Swi
 comes_pair routes n c ls ms w v st e j k ep came i s pair (ends cause diagnostic reason rest is) = comes_over routes n c cause diagnostic reason rest ls ms w v st e j k came i s is
 comes_pair routes n c ls ms w v st e j k ep came i s (connected h) (goes_on before after notes) = comes_on routes n c ls ms w v st e j k came i s h after notes
 comes_pair routes n c ls ms w v st e j k ep came i s (connected h) (connects callee is) =
-    absurd (true≢false (sym (ap (λ (x : CallState). in_transfer x) h.there.holds.near_call) ∙ waiting_before (w (at n c)).role (w (at n c)).channel.state callee))
+    absurd (true≢false (sym (ap (λ (x : ChannelState). in_transfer x) h.there.holds.near_call) ∙ waiting_before (w (at n c)).role (w (at n c)).channel.state callee))
 comes_pair routes n c ls ms w v st e j k ep came i s (connected h) (waits callee is still) =
-    absurd (true≢false (sym (ap (λ (x : CallState). in_transfer x) h.there.holds.near_call) ∙ waiting_before (w (at n c)).role (w (at n c)).channel.state callee))
+    absurd (true≢false (sym (ap (λ (x : ChannelState). in_transfer x) h.there.holds.near_call) ∙ waiting_before (w (at n c)).role (w (at n c)).channel.state callee))
 comes_pair routes n c ls ms w v st e j k ep came i s (waiting a b h) (goes_on before after notes) =
-    absurd (true≢false (sym (ap (λ (x : CallState). in_transfer x) before) ∙ (waits_before j.came_in (w (at n c)) (w j.other) h).0))
+    absurd (true≢false (sym (ap (λ (x : ChannelState). in_transfer x) before) ∙ (waits_before j.came_in (w (at n c)) (w j.other) h).0))
 comes_pair routes n c ls ms w v st e j k ep came i s (waiting a b h) (connects callee is) =
     comes_connected routes n c ls ms w v st e j k came i s a b h callee (same_epoch ep) is
   where

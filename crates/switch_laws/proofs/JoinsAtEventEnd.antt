@@ -8,7 +8,7 @@ use Rattle.lapb.specs.Machine.{can_offer}
 use Rattle.data_transfer.specs.declared.flow.Flow.{Flow}
 use Rattle.data_transfer.specs.Packets.{Body, Packet}
 use Rattle.data_transfer.specs.Traffic.{Taken, says}
-use Rattle.packet_channel.specs.Channel.{CallState, Channel, ChannelNext, Request, had_call, has_flow, next_of, next_owed, moved as with_traffic}
+use Rattle.packet_channel.specs.Channel.{ChannelState, Channel, ChannelNext, Request, had_call, has_flow, next_of, next_owed, moved as with_traffic}
 use Rattle.packet_channel.specs.Channel.Request.{Taking}
 use Rattle.packet_layer.specs.Layer.{Layer, Phase, Next, channel_of, with_nth, nth_channel, next_packet, next_in, next_restart, next_number, serve, serve_found, packet_of}
 use Rattle.packet_layer.specs.Layer.Phase.{NoSession, OwnRestart, PacketReady}
@@ -147,7 +147,7 @@ given_keeps n ls = record {
         record {
           channel = b.old;
           there = ap (λ (o : Option Layer). shown_on o x.channel) (ap (λ (k : ℕ). slice_get (layers_of ls) k) same ∙ a.1.1) ∙ b.there;
-          call = ap (λ (s : CallState). had_call s) (sym b.state) ∙ h.call;
+          call = ap (λ (s : ChannelState). had_call s) (sym b.state) ∙ h.call;
         }
 
 -- ---- offers

@@ -10,8 +10,8 @@ use Rattle.data_transfer.specs.Packets.{CallParts, Body, Packet, Received}
 use Rattle.data_transfer.specs.Packets.Body.{Clear, ClearConfirmation, Reset, ResetConfirmation, Restart, RestartConfirmation}
 use Rattle.data_transfer.specs.Packets.Received.{Whole, Unknown, Faulty}
 use Rattle.data_transfer.specs.Traffic.{hears}
-use Rattle.packet_channel.specs.Channel.{CallState, Channel, Step, Request, Refusal, refusal, requested, received, unreadable, carried_out, unless, owing, closed_channel, clear_error, in_transfer, placing, is_free, is_ready, next_of}
-use Rattle.packet_channel.specs.Channel.CallState.{Ready}
+use Rattle.packet_channel.specs.Channel.{ChannelState, Channel, Step, Request, Refusal, refusal, requested, received, unreadable, carried_out, unless, owing, closed_channel, clear_error, in_transfer, placing, is_free, is_ready, next_of}
+use Rattle.packet_channel.specs.Channel.ChannelState.{Ready}
 use Rattle.packet_layer.specs.Layer.{Layer, Phase, Timer, Next, nth_channel, channel_of, with_nth, channel_given, next_in, next_restart, serve, serve_found, next_number, packet_of, on_received, on_timer, expired, on_found, unread, runs, link_up, link_down, request, call, placed_on, restart_packet, on_channel}
 use Rattle.packet_layer.specs.Layer.Phase.{NoSession, OwnRestart, PacketReady}
 use Rattle.packet_layer.specs.Layer.Timer.{RestartTimer, CallTimer, ResetTimer, ClearTimer}
@@ -181,7 +181,7 @@ line_expires t l c g i = by_both (λ (x : Layer) (y : Leg). LineAgrees (unread x
 
 -- ---- a call is placed
 
-pub not_in_transfer : (s : CallState) → is_ready s ≡ true → in_transfer s ≡ false
+pub not_in_transfer : (s : ChannelState) → is_ready s ≡ true → in_transfer s ≡ false
 not_in_transfer Ready e = refl
 not_in_transfer s e = absurd (true≢false (sym e))
 

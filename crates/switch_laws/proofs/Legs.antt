@@ -10,8 +10,8 @@ use Rattle.data_transfer.specs.Packets.{Datum, Body}
 use Rattle.data_transfer.specs.Packets.Body.{Data, Interrupt, InterruptConfirmation, ReceiveReady, ReceiveNotReady}
 use Rattle.data_transfer.specs.Traffic.{Traffic, fresh, taking, taking_of, may_release, releasing, confirming, interrupt_pending, unreleased, says, says_interrupt, says_data, says_flow, flow_told, window_open, Said, hears, Heard, covers, keeps, arrives, partner_says, interrupted, in_flight}
 use Rattle.data_transfer.specs.Traffic.Heard.{Keeps, Confirms, Wrong}
-use Rattle.packet_channel.specs.Channel.{CallState, Request, Refusal, refusal, refused_if, in_transfer, moved, next_owed, ChannelNext, has_flow}
-use Rattle.packet_channel.specs.Channel.CallState.{Transfer}
+use Rattle.packet_channel.specs.Channel.{ChannelState, Request, Refusal, refusal, refused_if, in_transfer, moved, next_owed, ChannelNext, has_flow}
+use Rattle.packet_channel.specs.Channel.ChannelState.{Transfer}
 use Rattle.packet_channel.specs.Channel.Request.{Sending, Interrupting, Taking, Releasing, Confirming}
 use Rattle.packet_laws.specs.History.{Epoch, empty_epoch, logged}
 use Rattle.packet_laws.proofs.Numbers.{unreleased_is}
@@ -44,13 +44,13 @@ pub asked_as : (q : Request) (g : Leg) → refusal g.role g.flow g.channel q ≡
 asked_as q g e = ap (λ (r : Option Refusal). asked_unless r q g) e
 
 pub taking_allowed : (g : Leg) → g.channel.state ≡ Transfer → refusal g.role g.flow g.channel Taking ≡ None
-taking_allowed g e = ap (λ (s : CallState). refused_if (not (in_transfer s)) Refusal.NoCall None) e
+taking_allowed g e = ap (λ (s : ChannelState). refused_if (not (in_transfer s)) Refusal.NoCall None) e
 
 pub releasing_allowed : (n : ℕ) (g : Leg) → g.channel.state ≡ Transfer → refusal g.role g.flow g.channel (Releasing n) ≡ None
-releasing_allowed n g e = ap (λ (s : CallState). refused_if (not (in_transfer s)) Refusal.NoCall None) e
+releasing_allowed n g e = ap (λ (s : ChannelState). refused_if (not (in_transfer s)) Refusal.NoCall None) e
 
 pub confirming_allowed : (g : Leg) → g.channel.state ≡ Transfer → refusal g.role g.flow g.channel Confirming ≡ None
-confirming_allowed g e = ap (λ (s : CallState). refused_if (not (in_transfer s)) Refusal.NoCall None) e
+confirming_allowed g e = ap (λ (s : ChannelState). refused_if (not (in_transfer s)) Refusal.NoCall None) e
 
 -- ---- counts
 

@@ -8,8 +8,8 @@ use Rattle.data_transfer.specs.Packets.{Body}
 use Rattle.data_transfer.specs.Packets.Body.{Call, Accepted, Clear, ClearConfirmation, Data, Interrupt, InterruptConfirmation, ReceiveReady, ReceiveNotReady, Reset, ResetConfirmation}
 use Rattle.data_transfer.specs.Traffic.{Traffic, fresh, Heard, hears as hears_in, says}
 use Rattle.data_transfer.specs.Traffic.Heard.{Keeps, Confirms, Wrong}
-use Rattle.packet_channel.specs.Channel.{CallState, Request, Refusal, refusal, refused_if, in_transfer, may_accept, after_heard, has_flow, ChannelNext, next_owed, moved as with_traffic}
-use Rattle.packet_channel.specs.Channel.CallState.{Ready, OwnWaiting, FarWaiting, Transfer, Collision, OwnClear}
+use Rattle.packet_channel.specs.Channel.{ChannelState, Request, Refusal, refusal, refused_if, in_transfer, may_accept, after_heard, has_flow, ChannelNext, next_owed, moved as with_traffic}
+use Rattle.packet_channel.specs.Channel.ChannelState.{Ready, OwnWaiting, FarWaiting, Transfer, Collision, OwnClear}
 use Rattle.packet_channel.specs.Channel.Request.{Accept, Clearing, Resetting, Sending, Interrupting, Stopping, Taking, Releasing, Confirming}
 use Rattle.packet_laws.specs.History.{Epoch, logged_heard}
 use Rattle.packet_laws.specs.Counts.{NamesCounts, NamesAfter}
@@ -35,7 +35,7 @@ transfer_good g t i = record { leg = i; start = λ e. absurd (true≢false (sym 
 
 -- ---- asked
 
-pub accepts_before : (role : Role) (s : CallState) → may_accept role s ≡ true → in_transfer s ≡ false
+pub accepts_before : (role : Role) (s : ChannelState) → may_accept role s ≡ true → in_transfer s ≡ false
 accepts_before role Ready e = refl
 accepts_before role OwnWaiting e = refl
 accepts_before role FarWaiting e = refl
@@ -78,7 +78,7 @@ asked_good q g m i = asked_unless_good (refusal g.role g.flow g.channel q) q g m
 
 -- ---- heard
 
-abbrev pub leg_in : CallState → Bool → Leg → Leg
+abbrev pub leg_in : ChannelState → Bool → Leg → Leg
 leg_in s rs g = record g { channel = record g.channel { state = s; resetting = rs } }
 
 leg_keeps : (n : ℕ) (u : Traffic) (g : Leg) → g.channel.resetting ≡ false → NamesCounts g.flow u (record g.epoch { covered = g.epoch.covered + n }) → Flags g.channel.traffic u
@@ -164,7 +164,7 @@ far_waiting_good : (rs : Bool) (c : ℕ) (p : Body) (g : Leg) → Hears c p (leg
 far_waiting_good rs c (Clear cause diagnostic) g i = start_good (heard c (Clear cause diagnostic) (leg_in FarWaiting rs g)) i.leg.flow (record { not_resetting = refl; traffic = refl; before = refl; epoch = refl })
 far_waiting_good rs c p g i = start_good (heard c p (leg_in FarWaiting rs g)) i.leg.flow (record { not_resetting = refl; traffic = refl; before = refl; epoch = refl })
 
-abbrev leg_as : Role → CallState → Bool → Leg → Leg
+abbrev leg_as : Role → ChannelState → Bool → Leg → Leg
 leg_as role s rs g = record (leg_in s rs g) { role = role }
 
 collision_good : (role : Role) (rs : Bool) (c : ℕ) (p : Body) (g : Leg) → Hears c p (leg_as role Collision rs g)
@@ -178,7 +178,7 @@ own_clear_good rs c (Clear cause diagnostic) g i = let a = i.start refl in start
 own_clear_good rs c (ClearConfirmation) g i = let a = i.start refl in start_good (heard c (ClearConfirmation) (leg_in OwnClear rs g)) i.leg.flow (record { not_resetting = a.not_resetting; traffic = a.traffic; before = a.before; epoch = a.epoch })
 own_clear_good rs c p g i = let a = i.start refl in start_good (heard c p (leg_in OwnClear rs g)) i.leg.flow (record { not_resetting = a.not_resetting; traffic = a.traffic; before = a.before; epoch = a.epoch })
 
-heard_in : (s : CallState) (rs : Bool) (c : ℕ) (p : Body) (g : Leg) → Hears c p (leg_in s rs g)
+heard_in : (s : ChannelState) (rs : Bool) (c : ℕ) (p : Body) (g : Leg) → Hears c p (leg_in s rs g)
 heard_in Ready rs c p g i = ready_good rs c p g i
 heard_in OwnWaiting rs c p g i = own_waiting_good rs c p g i
 heard_in FarWaiting rs c p g i = far_waiting_good rs c p g i
@@ -190,7 +190,7 @@ heard_in OwnClear rs c p g i = own_clear_good rs c p g i
 pub heard_good : (c : ℕ) (p : Body) (g : Leg) → IsCallLeg g → IsCallLeg (heard c p g)
 heard_good c p g i = heard_in g.channel.state g.channel.resetting c p g i
 
-misheard_in : (s : CallState) (rs : Bool) (c : ℕ) (unknown : Bool) (g : Leg) → IsCallLeg (leg_in s rs g) → IsCallLeg (misheard c unknown (leg_in s rs g))
+misheard_in : (s : ChannelState) (rs : Bool) (c : ℕ) (unknown : Bool) (g : Leg) → IsCallLeg (leg_in s rs g) → IsCallLeg (misheard c unknown (leg_in s rs g))
 misheard_in OwnClear rs c unknown g i = i
 misheard_in Transfer false c unknown g i = transfer_good (misheard c unknown (leg_in Transfer false g)) refl (leg_anew true _ (leg_in Transfer false g) i.leg)
 misheard_in Transfer true c unknown g i = start_good (misheard c unknown (leg_in Transfer true g)) i.leg.flow (record { not_resetting = refl; traffic = refl; before = refl; epoch = refl })
@@ -213,4 +213,4 @@ gave_start [] g t a = gave_says (has_flow g.channel) g (λ e. ap (λ (b : Bool).
 pub gave_good : (g : Leg) → IsCallLeg g → IsCallLeg (gave g)
 gave_good g i =
     let k = leg_gave g i.leg in
-    record { leg = k.leg; start = λ e. gave_start g.channel.owed g (sym (ap (λ (s : CallState). in_transfer s) k.state) ∙ e) (i.start (sym (ap (λ (s : CallState). in_transfer s) k.state) ∙ e)) }
+    record { leg = k.leg; start = λ e. gave_start g.channel.owed g (sym (ap (λ (s : ChannelState). in_transfer s) k.state) ∙ e) (i.start (sym (ap (λ (s : ChannelState). in_transfer s) k.state) ∙ e)) }

@@ -7,7 +7,7 @@ use Rattle.packet_codec.specs.ClearCause as clear_cause
 use Rattle.packet_codec.specs.Diagnostic.{no_information}
 use Rattle.data_transfer.specs.Packets.{Note, Reason}
 use Rattle.data_transfer.specs.Packets.Note.{Incoming, Connected, Closed, WasReset, InterruptConfirmed, Covered}
-use Rattle.packet_channel.specs.Channel.{CallState, Channel, had_call}
+use Rattle.packet_channel.specs.Channel.{ChannelState, Channel, had_call}
 use Rattle.packet_layer.specs.Layer.{Layer, channel_of, closing_notes, unread}
 use Rattle.address_routes.specs.Routes.{RouteMap}
 use Rattle.lapb.specs.Machine.{Octets}
@@ -36,7 +36,7 @@ single_answer (Clears cause) p = refl
 single_answer (Joins q) p = refl
 
 -- notes of one channel
-single_of : (routes : RouteMap) (n d : ℕ) (role : Role) (s : CallState) (ns : List Note) (ls : List SwitchLine) → AreOf d role s ns → Single (joins_of_notes routes n ns ls)
+single_of : (routes : RouteMap) (n d : ℕ) (role : Role) (s : ChannelState) (ns : List Note) (ls : List SwitchLine) → AreOf d role s ns → Single (joins_of_notes routes n ns ls)
 single_of routes n d role s [] ls of = refl
 single_of routes n d role s (Incoming c parts ∷ ns) ls of =
     subst (λ (more : List Note). Single (join_of (answer routes ls n parts) (at n c) ++ joins_of_notes routes n more (heed routes n (Incoming c parts) ls))) (sym of.1.1) (single_answer (answer routes ls n parts) (at n c))

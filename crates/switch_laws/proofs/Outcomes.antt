@@ -8,13 +8,13 @@ use Rattle.data_transfer.specs.Packets.Body.{Call, Accepted, Clear, ClearConfirm
 use Rattle.data_transfer.specs.Packets.Note.{Incoming, Connected, Closed, WasReset, InterruptConfirmed, Covered}
 use Rattle.data_transfer.specs.Traffic.{Heard, hears as hears_in}
 use Rattle.data_transfer.specs.Traffic.Heard.{Keeps, Confirms, Wrong}
-use Rattle.packet_channel.specs.Channel.{CallState, Channel, Step, received, unreadable, in_transfer, may_accept, waits_for_call, had_call, after_heard, entered}
-use Rattle.packet_channel.specs.Channel.CallState.{Ready, OwnWaiting, FarWaiting, Transfer, Collision, OwnClear}
+use Rattle.packet_channel.specs.Channel.{ChannelState, Channel, Step, received, unreadable, in_transfer, may_accept, waits_for_call, had_call, after_heard, entered}
+use Rattle.packet_channel.specs.Channel.ChannelState.{Ready, OwnWaiting, FarWaiting, Transfer, Collision, OwnClear}
 use Rattle.packet_laws.specs.Readable.{Every}
 use Rattle.switch_laws.proofs.NotesOfJoined.{GoesOn}
 
 -- all notes are of this channel, and after one of a call that comes in, which can be accepted, comes no other
-abbrev pub AreOf : (channel : ℕ) → Role → CallState → List Note → Type 0
+abbrev pub AreOf : (channel : ℕ) → Role → ChannelState → List Note → Type 0
 AreOf c role s [] = Unit {0}
 AreOf c role s (Incoming d parts ∷ ns) = (d ≡ c) × ((may_accept role s ≡ true) × (ns ≡ []))
 AreOf c role s (Connected d ∷ ns) = (d ≡ c) × AreOf c role s ns
@@ -30,7 +30,7 @@ pub data Outcome (c : ℕ) (role : Role) (ch : Channel) (st : Step) : Type 0 whe
   waits : waits_for_call role ch.state ≡ true → st ≡ record { channel = entered Collision ch; owes = None; notes = [] } → waits_for_call role Collision ≡ true → Outcome c role ch st
   goes_on : ch.state ≡ Transfer → st.channel.state ≡ Transfer → Every (GoesOn c) st.notes → Outcome c role ch st
 
-abbrev pub ch_in : CallState → Bool → Channel → Channel
+abbrev pub ch_in : ChannelState → Bool → Channel → Channel
 ch_in s rs ch = record ch { state = s; resetting = rs }
 
 -- ---- in d1
@@ -44,11 +44,11 @@ heard_goes_on role c ch (Keeps n t) e = (e, covered_goes_on c (n == 0) n)
 heard_goes_on role c ch (Confirms t) e = (e, (refl, tt))
 heard_goes_on role c ch (Wrong d) e = (e, (refl, tt))
 
-covered_of : (c : ℕ) (role : Role) (s : CallState) (b : Bool) (n : ℕ) → AreOf c role s (cond b [] (Covered c n ∷ []))
+covered_of : (c : ℕ) (role : Role) (s : ChannelState) (b : Bool) (n : ℕ) → AreOf c role s (cond b [] (Covered c n ∷ []))
 covered_of c role s true n = tt
 covered_of c role s false n = (refl, tt)
 
-heard_of : (role : Role) (c : ℕ) (ch : Channel) (h : Heard) (s : CallState) → AreOf c role s (after_heard role c ch h).notes
+heard_of : (role : Role) (c : ℕ) (ch : Channel) (h : Heard) (s : ChannelState) → AreOf c role s (after_heard role c ch h).notes
 heard_of role c ch (Keeps n t) s = covered_of c role s (n == 0) n
 heard_of role c ch (Confirms t) s = (refl, tt)
 heard_of role c ch (Wrong d) s = (refl, tt)
@@ -98,7 +98,7 @@ collision Dte rs flow c (Clear cause diagnostic) ch = ends _ _ _ _ refl
 collision Dce rs flow c (Clear cause diagnostic) ch = ends _ _ _ _ refl
 collision role rs flow c p ch = ends _ _ _ _ refl
 
-received_in : (s : CallState) (rs : Bool) (role : Role) (flow : Flow) (c : ℕ) (p : Body) (ch : Channel) → had_call s ≡ true → Received role flow c (ch_in s rs ch) p
+received_in : (s : ChannelState) (rs : Bool) (role : Role) (flow : Flow) (c : ℕ) (p : Body) (ch : Channel) → had_call s ≡ true → Received role flow c (ch_in s rs ch) p
 received_in Ready rs role flow c p ch e = absurd (true≢false (sym e))
 received_in OwnWaiting rs role flow c p ch e = own_waiting role rs flow c p ch
 received_in FarWaiting rs role flow c p ch e = far_waiting role rs flow c p ch
@@ -110,7 +110,7 @@ received_in OwnClear rs role flow c p ch e = absurd (true≢false (sym e))
 pub received_outcome : (role : Role) (flow : Flow) (c : ℕ) (p : Body) (ch : Channel) → had_call ch.state ≡ true → Outcome c role ch (received role flow c ch p)
 received_outcome role flow c p ch e = received_in ch.state ch.resetting role flow c p ch e
 
-unreadable_in : (s : CallState) (rs : Bool) (role : Role) (c : ℕ) (unknown : Bool) (ch : Channel) → had_call s ≡ true → Outcome c role (ch_in s rs ch) (unreadable role c unknown (ch_in s rs ch))
+unreadable_in : (s : ChannelState) (rs : Bool) (role : Role) (c : ℕ) (unknown : Bool) (ch : Channel) → had_call s ≡ true → Outcome c role (ch_in s rs ch) (unreadable role c unknown (ch_in s rs ch))
 unreadable_in Ready rs role c unknown ch e = absurd (true≢false (sym e))
 unreadable_in OwnClear rs role c unknown ch e = absurd (true≢false (sym e))
 unreadable_in Transfer false role c unknown ch e = goes_on refl refl (refl, tt)
@@ -174,7 +174,7 @@ d1_of role flow c (Interrupt octets) ch = heard_of role c (ch_in Transfer false 
 d1_of role flow c InterruptConfirmation ch = heard_of role c (ch_in Transfer false ch) (hears_in flow ch.traffic InterruptConfirmation) _
 d1_of role flow c p ch = (refl, tt)
 
-of_received : (s : CallState) (rs : Bool) (role : Role) (flow : Flow) (c : ℕ) (p : Body) (ch : Channel) → Notes role c (received role flow c (ch_in s rs ch) p)
+of_received : (s : ChannelState) (rs : Bool) (role : Role) (flow : Flow) (c : ℕ) (p : Body) (ch : Channel) → Notes role c (received role flow c (ch_in s rs ch) p)
 of_received Ready rs role flow c p ch = ready_of role rs flow c p ch
 of_received OwnWaiting rs role flow c p ch = own_waiting_of role rs flow c p ch
 of_received FarWaiting rs role flow c p ch = far_waiting_of role rs flow c p ch
@@ -186,7 +186,7 @@ of_received OwnClear rs role flow c p ch = own_clear_of role rs flow c p ch
 pub received_notes : (role : Role) (flow : Flow) (c : ℕ) (p : Body) (ch : Channel) → AreOf c role (received role flow c ch p).channel.state (received role flow c ch p).notes
 received_notes role flow c p ch = of_received ch.state ch.resetting role flow c p ch
 
-of_unreadable : (s : CallState) (rs : Bool) (role : Role) (c : ℕ) (unknown : Bool) (ch : Channel) → Notes role c (unreadable role c unknown (ch_in s rs ch))
+of_unreadable : (s : ChannelState) (rs : Bool) (role : Role) (c : ℕ) (unknown : Bool) (ch : Channel) → Notes role c (unreadable role c unknown (ch_in s rs ch))
 of_unreadable Ready rs role c unknown ch = tt
 of_unreadable OwnClear rs role c unknown ch = tt
 of_unreadable Transfer false role c unknown ch = (refl, tt)

@@ -5,8 +5,8 @@ use Rattle.std.proofs.lemmas.Bool.{eqb-true, eq-eqb}
 use Rattle.link_timers.specs.declared.role.Role.{Role}
 use Rattle.packet_codec.specs.ClearCause.{invalid_facility, not_obtainable, out_of_order}
 use Rattle.data_transfer.specs.Packets.{CallParts}
-use Rattle.packet_channel.specs.Channel.{CallState, had_call, may_accept, waits_for_call}
-use Rattle.packet_channel.specs.Channel.CallState.{Ready, OwnWaiting, FarWaiting, Transfer, Collision, OwnClear}
+use Rattle.packet_channel.specs.Channel.{ChannelState, had_call, may_accept, waits_for_call}
+use Rattle.packet_channel.specs.Channel.ChannelState.{Ready, OwnWaiting, FarWaiting, Transfer, Collision, OwnClear}
 use Rattle.packet_layer.specs.Layer.{Layer, Phase, free_channel, channel_given}
 use Rattle.packet_layer.specs.Layer.Phase.{NoSession, OwnRestart, PacketReady}
 use Rattle.packet_end.specs.PacketEnd.{received, after_timer}
@@ -84,7 +84,7 @@ ready n l phase o e f =
 
 -- ---- calls
 
-accepts_call : (role : Role) (s : CallState) → may_accept role s ≡ true → had_call s ≡ true
+accepts_call : (role : Role) (s : ChannelState) → may_accept role s ≡ true → had_call s ≡ true
 accepts_call role Ready e = absurd (true≢false (sym e))
 accepts_call role OwnWaiting e = refl
 accepts_call role FarWaiting e = refl
@@ -92,7 +92,7 @@ accepts_call role Transfer e = refl
 accepts_call role Collision e = refl
 accepts_call role OwnClear e = absurd (true≢false (sym e))
 
-waits_call : (role : Role) (s : CallState) → waits_for_call role s ≡ true → had_call s ≡ true
+waits_call : (role : Role) (s : ChannelState) → waits_for_call role s ≡ true → had_call s ≡ true
 waits_call role Ready e = absurd (true≢false (sym e))
 waits_call role OwnWaiting e = refl
 waits_call role FarWaiting e = refl
@@ -105,7 +105,7 @@ waiting_call true g h i = accepts_call g.role g.channel.state i.can_accept
 waiting_call false g h i = waits_call g.role g.channel.state i.waits
 
 pair_call : (g h : Leg) (j k : Joined) → IsPair g h j k → had_call g.channel.state ≡ true
-pair_call g h j k (connected i) = ap (λ (s : CallState). had_call s) i.there.holds.near_call
+pair_call g h j k (connected i) = ap (λ (s : ChannelState). had_call s) i.there.holds.near_call
 pair_call g h j k (waiting a b i) = waiting_call j.came_in g h i
 
 paired : (g h : Leg) (j k : Joined) (p q : SwitchChannel) → IsPair g h j k ⊎ (⊥ ⊎ ⊥) → IsPair g h j k

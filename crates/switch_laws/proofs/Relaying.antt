@@ -7,8 +7,8 @@ use Rattle.link_timers.specs.declared.role.Role.TheVariants.{Dte, Dce}
 use Rattle.data_transfer.specs.Packets.{Datum}
 use Rattle.data_transfer.specs.Traffic.{Taken, Traffic, front}
 use Rattle.data_transfer.specs.Traffic.Taken.{TakenInterrupt, TakenPacket}
-use Rattle.packet_channel.specs.Channel.{CallState, Request, in_transfer, waits_for_call}
-use Rattle.packet_channel.specs.Channel.CallState.{Ready, OwnWaiting, FarWaiting, Transfer, Collision, OwnClear}
+use Rattle.packet_channel.specs.Channel.{ChannelState, Request, in_transfer, waits_for_call}
+use Rattle.packet_channel.specs.Channel.ChannelState.{Ready, OwnWaiting, FarWaiting, Transfer, Collision, OwnClear}
 use Rattle.packet_channel.specs.Channel.Request.{Sending, Taking, Releasing}
 use Rattle.switch_joins.specs.Turning.{Sizes, Gathered, turned}
 use Rattle.switch_joins.specs.Direction.{Direction, releasable, released}
@@ -332,7 +332,7 @@ visited_same ss ls ms w x f e i s = subst (λ (us : List Step). VisitedBy us ls 
   stuck_elsewhere = λ p a h. h;
 }))
 
-pub waiting_before : (role : Role) (s : CallState) → waits_for_call role s ≡ true → in_transfer s ≡ false
+pub waiting_before : (role : Role) (s : ChannelState) → waits_for_call role s ≡ true → in_transfer s ≡ false
 waiting_before role Ready e = refl
 waiting_before role OwnWaiting e = refl
 waiting_before role FarWaiting e = refl

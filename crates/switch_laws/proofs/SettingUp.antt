@@ -8,8 +8,8 @@ use Rattle.link_timers.specs.declared.role.Role.TheVariants.{Dte, Dce}
 use Rattle.packet_codec.specs.Diagnostic.{no_information}
 use Rattle.data_transfer.specs.Packets.{CallParts}
 use Rattle.data_transfer.specs.Packets.Note.{Incoming}
-use Rattle.packet_channel.specs.Channel.{CallState, Channel, may_accept, waits_for_call, had_call, is_ready, is_free, placing}
-use Rattle.packet_channel.specs.Channel.CallState.{Ready, OwnWaiting, FarWaiting, Transfer, Collision, OwnClear}
+use Rattle.packet_channel.specs.Channel.{ChannelState, Channel, may_accept, waits_for_call, had_call, is_ready, is_free, placing}
+use Rattle.packet_channel.specs.Channel.ChannelState.{Ready, OwnWaiting, FarWaiting, Transfer, Collision, OwnClear}
 use Rattle.packet_channel.specs.Channel.Request.{Clearing}
 use Rattle.packet_layer.specs.Layer.{Layer, Phase, channel_of, channel_given}
 use Rattle.packet_laws.proofs.Call.Saying.{and_parts}
@@ -37,7 +37,7 @@ use Rattle.switch_lines.proofs.Places.{joined_asked, joined_kept, joined_apart}
 
 -- ---- a joined channel has a call
 
-pub accepts_call : (role : Role) (s : CallState) → may_accept role s ≡ true → had_call s ≡ true
+pub accepts_call : (role : Role) (s : ChannelState) → may_accept role s ≡ true → had_call s ≡ true
 accepts_call Dte Ready e = absurd (true≢false (sym e))
 accepts_call Dce Ready e = absurd (true≢false (sym e))
 accepts_call Dte OwnClear e = absurd (true≢false (sym e))
@@ -47,7 +47,7 @@ accepts_call role FarWaiting e = refl
 accepts_call role Transfer e = refl
 accepts_call role Collision e = refl
 
-pub waits_call : (role : Role) (s : CallState) → waits_for_call role s ≡ true → had_call s ≡ true
+pub waits_call : (role : Role) (s : ChannelState) → waits_for_call role s ≡ true → had_call s ≡ true
 waits_call Dte Ready e = absurd (true≢false (sym e))
 waits_call Dce Ready e = absurd (true≢false (sym e))
 waits_call Dte OwnClear e = absurd (true≢false (sym e))
@@ -62,10 +62,10 @@ waiting_call true g h i = accepts_call g.role g.channel.state i.can_accept
 waiting_call false g h i = waits_call g.role g.channel.state i.waits
 
 pub pair_call : (g h : Leg) (j k : Joined) → IsPair g h j k → had_call g.channel.state ≡ true
-pair_call g h j k (connected i) = ap (λ (s : CallState). had_call s) i.there.holds.near_call
+pair_call g h j k (connected i) = ap (λ (s : ChannelState). had_call s) i.there.holds.near_call
 pair_call g h j k (waiting a b i) = waiting_call j.came_in g h i
 
-pub ready_no_call : (s : CallState) → is_ready s ≡ true → had_call s ≡ true → ⊥
+pub ready_no_call : (s : ChannelState) → is_ready s ≡ true → had_call s ≡ true → ⊥
 ready_no_call Ready r e = true≢false (sym e)
 ready_no_call OwnWaiting r e = true≢false (sym r)
 ready_no_call FarWaiting r e = true≢false (sym r)

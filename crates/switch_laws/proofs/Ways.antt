@@ -10,8 +10,8 @@ use Rattle.data_transfer.specs.Flow.{is_size}
 use Rattle.data_transfer.specs.Packets.{Datum}
 use Rattle.data_transfer.specs.Traffic.{Taken, front, front_of, may_release, releasing, interrupt_pending}
 use Rattle.data_transfer.specs.Traffic.Taken.{TakenInterrupt, TakenPacket}
-use Rattle.packet_channel.specs.Channel.{CallState, Channel, Request, Refusal, refusal, refused_if, in_transfer, carried_out, owing, unless, moved as with_traffic}
-use Rattle.packet_channel.specs.Channel.CallState.{Transfer}
+use Rattle.packet_channel.specs.Channel.{ChannelState, Channel, Request, Refusal, refusal, refused_if, in_transfer, carried_out, owing, unless, moved as with_traffic}
+use Rattle.packet_channel.specs.Channel.ChannelState.{Transfer}
 use Rattle.packet_channel.specs.Channel.Request.{Sending, Interrupting, Taking, Releasing}
 use Rattle.packet_laws.specs.History.{Epoch}
 use Rattle.packet_laws.proofs.Numbers.{gone_is}
@@ -30,14 +30,14 @@ use Rattle.switch_lines.specs.Relay.{carried_by, requests_for, most_moves}
 
 pub record Near : Type 0 where
   pub size : ℕ
-  pub state : CallState
+  pub state : ChannelState
   pub before : List Epoch
   pub part : TakenPart
   pub interrupt_taken : Bool
 
 pub record Far : Type 0 where
   pub size : ℕ
-  pub state : CallState
+  pub state : ChannelState
   pub before : List Epoch
   pub part : SentPart
   pub pending : Bool
@@ -325,7 +325,7 @@ waits g = length g.channel.traffic.arrived + one g.channel.traffic.interrupt_arr
 -- whether a leg takes what is sent on it
 pub record Open : Type 0 where
   pub size : ℕ
-  pub state : CallState
+  pub state : ChannelState
   pub resetting : Bool
   pub waiting : List Datum
   pub interrupt_waiting : Option (List ℕ)

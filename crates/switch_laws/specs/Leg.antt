@@ -6,9 +6,9 @@ use Rattle.data_transfer.specs.declared.flow.Flow.{Flow}
 use Rattle.data_transfer.specs.Packets.{Body}
 use Rattle.data_transfer.specs.Packets.Body.{Reset, ResetConfirmation, Clear, ClearConfirmation}
 use Rattle.data_transfer.specs.Traffic.{fresh, Heard, hears}
-use Rattle.packet_channel.specs.Channel.{CallState, Channel, Step, Request, Refusal, received, unreadable, refusal}
+use Rattle.packet_channel.specs.Channel.{ChannelState, Channel, Step, Request, Refusal, received, unreadable, refusal}
 use Rattle.packet_channel.specs.Channel.{carried_out, owing, next_of}
-use Rattle.packet_channel.specs.Channel.CallState.{Transfer}
+use Rattle.packet_channel.specs.Channel.ChannelState.{Transfer}
 use Rattle.packet_laws.specs.History.{Epoch, empty_epoch, logged, logged_heard}
 use Rattle.packet_laws.specs.Counts.{NamesCounts}
 
@@ -48,7 +48,7 @@ asked_all [] g = g
 asked_all (q ∷ qs) g = asked_all qs (asked q g)
 
 -- a packet that is heard in d1 covers what its P(R) covers
-abbrev pub heard_epoch : CallState → Bool → Heard → Epoch → Epoch
+abbrev pub heard_epoch : ChannelState → Bool → Heard → Epoch → Epoch
 heard_epoch Transfer false h e = logged_heard h e
 heard_epoch s b h e = e
 

@@ -13,6 +13,6 @@ pub mod EventSteps
 pub mod Events
 pub mod Pairs
 pub mod Concern
-pub mod Law
+pub mod RelayLaws
 pub mod Isolated
 pub mod Sent

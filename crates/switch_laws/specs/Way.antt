@@ -3,7 +3,7 @@ use Rattle.std.specs.Prelude.{◌≡◌, ℕ, zero, suc, Bool, true, false, List
 use Rattle.data_transfer.specs.Traffic.{Taken, front, interrupt_pending}
 use Rattle.packet_channel.specs.Channel.{Request}
 use Rattle.packet_channel.specs.Channel.Request.{Taking, Releasing, Confirming}
-use Rattle.packet_channel.specs.Channel.CallState.{Transfer}
+use Rattle.packet_channel.specs.Channel.ChannelState.{Transfer}
 use Rattle.switch_joins.specs.Direction.{Direction, releasable, released, covered_by}
 use Rattle.switch_joins.specs.Turning.{Sizes, IsGathered}
 use Rattle.switch_lines.specs.Lines.{takes_all}

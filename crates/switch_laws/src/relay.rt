@@ -2,7 +2,7 @@
 ghost use Rattle.switch_laws.specs.Concern.{ConcernLaw};
 ghost use Rattle.switch_laws.specs.Events.{EventLaw};
 ghost use Rattle.switch_laws.specs.Isolated.{IsolationLaw};
-ghost use Rattle.switch_laws.specs.Law.{JoinLaw, RelayLaw, SwitchLaw, TurnLaw};
+ghost use Rattle.switch_laws.specs.RelayLaws.{JoinLaw, RelayLaw, SwitchLaw, TurnLaw};
 ghost use Rattle.switch_laws.specs.Pairs.{PairLaw};
 ghost use Rattle.switch_laws.specs.Sent.{SentLaw};
 

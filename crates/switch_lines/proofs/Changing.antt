@@ -14,6 +14,11 @@ changed_nowhere f [] n h = refl
 changed_nowhere f (x ∷ xs) zero h = absurd (omega arith)
 changed_nowhere f (x ∷ xs) (suc n) h = ap (λ ys. x ∷ ys) (changed_nowhere f xs n (omega arith))
 
+pub length_changed : {X : Type 0} (n : ℕ) (f : X → X) (xs : List X) → length (changed n f xs) ≡ length xs
+length_changed n f [] = refl
+length_changed zero f (x ∷ xs) = refl
+length_changed (suc n) f (x ∷ xs) = ap (λ (k : ℕ). suc k) (length_changed n f xs)
+
 -- an element that is there, and one that is not
 pub there : {X : Type 0} (xs : List X) (n : ℕ) (x : X) → n < length xs → x ≡ get_or xs n x → slice_get xs n ≡ Some x
 there [] n x h e = absurd (omega arith)

@@ -1,24 +1,26 @@
 -- Heeding a note does not look at the notes that are left.
-use Rattle.std.proofs.Common.{◌≡◌, ℕ, zero, suc, ◌==◌, ◌&&◌, Bool, true, false, if◌then◌else◌, List, [], ◌∷◌, ◌++◌, length, drop, refl, sym, ap, ap₂, ◌∙◌, arith, Option, Some, None}
+use Rattle.std.proofs.Common.{◌≡◌, ℕ, zero, suc, ◌<◌, ◌==◌, ◌&&◌, Bool, true, false, true≢false, if◌then◌else◌, List, [], ◌∷◌, ◌++◌, length, drop, refl, sym, ap, ap₂, ◌∙◌, arith, Option, Some, None}
 use Rattle.std.specs.Option.{option_or, option_to_list}
 use Rattle.std.specs.Prelude.{slice_get, unwrap_or}
 use Rattle.std.proofs.lemmas.Option.{none-some, same_Some}
-use Rattle.packet_codec.specs.ClearCause.{invalid_facility}
+use Rattle.packet_codec.specs.ClearCause.{invalid_facility, not_obtainable}
 use Rattle.packet_codec.specs.Diagnostic.{no_information}
 use Rattle.data_transfer.specs.Packets.{CallParts, Note}
 use Rattle.data_transfer.specs.Packets.Note.{Incoming, Connected, Closed, WasReset, InterruptConfirmed, Covered}
 use Rattle.packet_channel.specs.Channel.{Request}
 use Rattle.packet_channel.specs.Channel.Request.{Accept, Clearing, Resetting, Confirming, Releasing}
+use Rattle.packet_layer.specs.Layer.{Phase, channel_given}
 use Rattle.packet_end.specs.PacketEnd.{PacketEnd, without_first_note}
 use Rattle.address_routes.specs.Routes.{RouteMap, line_for}
 use Rattle.switch_joins.specs.Direction.{Direction, new_direction, releasable, released, covered_by}
 use Rattle.joined_line.specs.Causes.{reset_cause, clear_cause, far_diagnostic}
 use Rattle.switch_lines.specs.Lines.{SwitchChannel, Joined, SwitchLine, is_trunk, changed, joined_at, with_joined, ask}
 use Rattle.switch_lines.specs.Relay.{told_joined, told_of, with_kept, freed, kept_anew, covered_on}
-use Rattle.switch_lines.specs.Switch.{Answer, answer, answer_by, answer_on, has_any, route_from, forwarded, address_of, place_call, with_join, answered, heed, heed_all, with_end, without_notes, notes_heeded, acted, all_begun, quieted}
+use Rattle.switch_lines.specs.Switch.{Answer, answer, answer_by, answer_on, answer_free, no_channel_cause, has_any, route_from, forwarded, address_of, place_call, with_join, answered, heed, heed_all, with_end, without_notes, notes_heeded, acted, all_begun, quieted}
 use Rattle.switch_lines.specs.Switch.Answer.{Clears, Joins}
 use Rattle.switch_lines.specs.NewJoins.{NewJoin, join_of, joins_of_note, joins_of_notes, joins_heeded}
 use Rattle.switch_lines.specs.ByPlace.{notes_on, AreRead}
+use Rattle.switch_lines.proofs.Changing.{length_changed}
 use Rattle.switch_lines.proofs.Places.{fused, same_there, joined_after}
 
 -- no notes are left on a line
@@ -30,11 +32,6 @@ record Calm (t : List SwitchLine → List SwitchLine) : Type 0 where
   commutes : (n : ℕ) (ls : List SwitchLine) → unnoted n (t ls) ≡ t (unnoted n ls)
   notes : (n : ℕ) (ls : List SwitchLine) → notes_on (t ls) n ≡ notes_on ls n
   lengths : (ls : List SwitchLine) → length (t ls) ≡ length ls
-
-length_changed : {X : Type 0} (n : ℕ) (f : X → X) (xs : List X) → length (changed n f xs) ≡ length xs
-length_changed n f [] = refl
-length_changed zero f (x ∷ xs) = refl
-length_changed (suc n) f (x ∷ xs) = ap (λ (k : ℕ). suc k) (length_changed n f xs)
 
 swapped : {X : Type 0} (f g : X → X) (n k : ℕ) (xs : List X) → ((x : X) → f (g x) ≡ g (f x)) → changed n f (changed k g xs) ≡ changed k g (changed n f xs)
 swapped f g n k [] same = refl
@@ -192,6 +189,47 @@ calm_heed routes k (Closed c cause diagnostic reason) = calm_tell (Closed c caus
 calm_heed routes k (WasReset c cause diagnostic reason) = calm_tell (WasReset c cause diagnostic reason) (record { line = k; channel = c })
 calm_heed routes k (InterruptConfirmed c) = calm_tell (InterruptConfirmed c) (record { line = k; channel = c })
 calm_heed routes k (Covered c count) = calm_tell (Covered c count) (record { line = k; channel = c })
+
+-- where it goes on, it is a channel of one of the lines
+goes_to : Answer → ℕ
+goes_to (Clears cause) = 0
+goes_to (Joins q) = q.line
+
+goes_on : Answer → Bool
+goes_on (Clears cause) = false
+goes_on (Joins q) = true
+
+none_goes_on : (cause : ℕ) (q : SwitchChannel) → Clears cause ≡ Joins q → ⊥
+unfolding goes_on
+none_goes_on cause q e = true≢false (sym (ap goes_on e))
+
+free_there : (n : ℕ) (phase : Phase) (o : Option ℕ) (q : SwitchChannel) → answer_free n phase o ≡ Joins q → n ≡ q.line
+unfolding goes_to
+free_there n phase None q e = absurd (none_goes_on (no_channel_cause phase) q e)
+free_there n phase (Some c) q e = ap goes_to e
+
+on_there : (n m : ℕ) (ls : List SwitchLine) (q : SwitchChannel) → answer_on m (slice_get ls n) ≡ Joins q → (n < length ls) × (m ≡ q.line)
+on_there n m [] q e = absurd (none_goes_on not_obtainable q e)
+on_there zero m (l ∷ ls) q e = (omega arith, free_there m l.end.layer.phase (channel_given l.end.layer l.end.layer.phase) q e)
+on_there (suc n) m (l ∷ ls) q e = let more = on_there n m ls q e in (omega (arith, more.0), more.1)
+
+by_there : (route : Option ℕ) (ls : List SwitchLine) (q : SwitchChannel) → answer_by ls route ≡ Joins q → q.line < length ls
+by_there None ls q e = absurd (none_goes_on not_obtainable q e)
+by_there (Some n) ls q e = let found = on_there n n ls q e in omega (arith, found.0, found.1)
+
+if_there : (b : Bool) (cause : ℕ) (a : Answer) (q : SwitchChannel) → (if b then Clears cause else a) ≡ Joins q → a ≡ Joins q
+if_there true cause a q e = absurd (none_goes_on cause q e)
+if_there false cause a q e = e
+
+pub answer_there : (routes : RouteMap) (n : ℕ) (parts : CallParts) (ls : List SwitchLine) (q : SwitchChannel) → answer routes ls n parts ≡ Joins q
+    → q.line < length ls
+answer_there routes n parts ls q e =
+    let route = route_from n ls (line_for routes parts.called) in
+    by_there route ls q (if_there (has_any parts.facilities) invalid_facility (answer_by ls route) q e)
+
+-- as many lines
+pub heeded_length : (routes : RouteMap) (k : ℕ) (x : Note) (ls : List SwitchLine) → length (heed routes k x ls) ≡ length ls
+heeded_length routes k x ls = (calm_heed routes k x).lengths ls
 
 -- ---- one note more
 

@@ -15,6 +15,7 @@ use Rattle.switch_lines.specs.Pooled.{PooledLine, plain}
 use Rattle.switch_lines.specs.Switch.{without_joins}
 use Rattle.switch_lines.specs.Waiting.{other_at, NothingElseMoves}
 use Rattle.switch_lines.proofs.Calmer.{IsCalm, same_layer}
+use Rattle.switch_lines.proofs.Touched.{count_written}
 use Rattle.switch_lines.proofs.Pooled.{Pooled, plain_set, plain_get, within_plain}
 use Rattle.switch_lines.proofs.Waiting.{leads, written_calm, written_others, place_same, calm_kept, touched_kept, joined_kept, none_joined, nth_set, got_written}
 use Rattle.switch_joins.proofs.Slots.{nth_apart, set_size}
@@ -41,7 +42,7 @@ pub one_calm_at : (s r : ChannelSet) (f : SwitchLine → SwitchLine) (ps : Poole
     → NothingElseMoves s r (plain ps) → NothingElseMoves s r (plain (set ps n new))
 one_calm_at s r f ps n old new less is done calm i =
     subst (λ (ls : Lines). NothingElseMoves s r ls) (sym (plain_set ps n new ∙ ap (λ (l : SwitchLine). set (plain ps) n l) done))
-    (calm_kept s r (plain ps) (set (plain ps) n (f old.line))
+    (calm_kept s r (plain ps) (set (plain ps) n (f old.line)) (count_written (plain ps) n (f old.line))
     (λ x. written_calm (plain ps) n old.line (f old.line) x (within_plain ps n less) (plain_get ps n old is) (λ same. calm x.channel)) i)
 
 pub one_calm : (s r : ChannelSet) (f : SwitchLine → SwitchLine) (ps : Pooled) (n : ℕ) (old new : PooledLine) → n < length ps → old ≡ get_or ps n old
@@ -59,7 +60,7 @@ pub one_stirred : (s t r : ChannelSet) (f : SwitchLine → SwitchLine) (ps zs : 
     → NothingElseMoves s r (plain ps) → NothingElseMoves t r (plain (set ps n new))
 one_stirred s t r f ps zs n c o old new less is done seen found touches others calm i =
     subst (λ (ls : Lines). NothingElseMoves t r ls) (sym (plain_set ps n new ∙ ap (λ (l : SwitchLine). set (plain ps) n l) done))
-    (touched_kept s t r (plain ps) ms x o (found ∙ ap (λ (ys : Pooled). other_at (plain ys) x) seen) touches (λ y. written_others (plain ps) n old.line (f old.line) y inside at (others old.line))
+    (touched_kept s t r (plain ps) ms x o (count_written (plain ps) n (f old.line)) (found ∙ ap (λ (ys : Pooled). other_at (plain ys) x) seen) touches (λ y. written_others (plain ps) n old.line (f old.line) y inside at (others old.line))
     (λ y small apart. written_calm (plain ps) n old.line (f old.line) y inside at
     (λ same. calm old.line y.channel (small_channel y small) (λ e. true≢false (sym (place_same y x same e) ∙ apart)))) i)
   where
@@ -78,12 +79,12 @@ one_stirred s t r f ps zs n c o old new less is done seen found touches others c
 -- a channel is joined there, or its join ends
 pub one_joined : (s t r : ChannelSet) (ps : Pooled) (n c : ℕ) (j : Option Joined) (o : Option SwitchChannel) (old new : PooledLine) → n < length ps → n < 64
     → old ≡ get_or ps n old → new.line ≡ record old.line { joined = with_nth_joined old.line.joined c j }
-    → length new.line.joined ≤ 32 → o ≡ option_map (λ (k : Joined). k.other) j
+    → length new.line.joined ≤ 32 → o ≡ option_map (λ (k : Joined). k.other) j → ((q : SwitchChannel) → o ≡ Some q → q.line < length ps)
     → ((p : SwitchChannel) → has t p ≡ false → (has s p ≡ false) × IsApart p (record { line = n; channel = c }) (other_at (plain ps) (record { line = n; channel = c })) × IsApart p (record { line = n; channel = c }) o)
     → NothingElseMoves s r (plain ps) → NothingElseMoves t r (plain (set ps n new))
-one_joined s t r ps n c j o old new less line is done few to touches i =
+one_joined s t r ps n c j o old new less line is done few to leads_there touches i =
     subst (λ (ls : Lines). NothingElseMoves t r ls) (sym (plain_set ps n new ∙ ap (λ (l : SwitchLine). set (plain ps) n l) done))
-    (joined_kept s t r (plain ps) ms x o touches
+    (joined_kept s t r (plain ps) ms x o (count_written (plain ps) n l) (λ q e. within_plain ps q.line (leads_there q e)) touches
     (λ y apart. written_calm (plain ps) n old.line l y inside at
     (λ same. (
       ap leads (nth_apart old.line.joined c y.channel j (λ e. true≢false (sym (place_same y x same e) ∙ apart))),

@@ -1,12 +1,13 @@
 -- Joins by place, after what is asked and kept elsewhere and there.
-use Rattle.std.proofs.Common.{◌≡◌, ℕ, zero, suc, ◌⊎◌, inl, inr, false, List, [], ◌∷◌, set, refl, sym, ap, subst, ◌∙◌, Option, Some, None}
+use Rattle.std.proofs.Common.{◌≡◌, ℕ, zero, suc, ◌⊎◌, inl, inr, false, List, [], ◌∷◌, length, set, refl, sym, ap, subst, ◌∙◌, Option, Some, None}
 use Rattle.std.specs.Prelude.{slice_get}
 use Rattle.std.proofs.lemmas.Option.{none-some}
 use Rattle.data_transfer.specs.declared.flow.Flow.{Flow}
 use Rattle.packet_channel.specs.Channel.{Channel, Request, requested}
 use Rattle.packet_layer.specs.Layer.{Layer, channel_of, on_found, request}
 use Rattle.packet_channel.specs.Channel.Request.{Releasing}
-use Rattle.packet_end.specs.PacketEnd.{asked}
+use Rattle.data_transfer.specs.Packets.{CallParts}
+use Rattle.packet_end.specs.PacketEnd.{asked, called}
 use Rattle.switch_joins.specs.Direction.{Direction, releasable, released}
 use Rattle.switch_joins.proofs.Apart.{apart_by}
 use Rattle.switch_lines.specs.Lines.{SwitchChannel, Joined, SwitchLine, same_place, changed, flat, nth_joined, joined_on, joined_at, with_nth_joined, with_joined, ask, ask_all, size_of_line, sizes_at}
@@ -15,6 +16,8 @@ use Rattle.joined_line.specs.OfLine.{kept_on, released_if, freed_on}
 use Rattle.switch_lines.specs.ByPlace.{kept_at, freed_at}
 use Rattle.switch_joins.specs.Joins.{joined_with}
 use Rattle.switch_joins.proofs.Slots.{nth_apart}
+use Rattle.switch_lines.specs.Switch.{place_call}
+use Rattle.switch_lines.proofs.Changing.{length_changed}
 
 -- ---- one element changed
 
@@ -42,6 +45,20 @@ set_again (z ∷ zs) (suc i) x y = ap (λ ys. z ∷ ys) (set_again zs i x y)
 joined_again : (js : List (Option Joined)) (c : ℕ) (o r : Option Joined) → with_nth_joined (with_nth_joined js c o) c r ≡ with_nth_joined js c r
 joined_again js zero o r = refl
 joined_again js (suc i) o r = set_again js i o r
+
+-- ---- as many lines
+
+pub joined_length : (p : SwitchChannel) (o : Option Joined) (ls : List SwitchLine) → length (with_joined p o ls) ≡ length ls
+joined_length p o ls = length_changed p.line (λ l. record l { joined = with_nth_joined l.joined p.channel o }) ls
+
+pub kept_length : (p : SwitchChannel) (f : Direction → Direction) (ls : List SwitchLine) → length (kept_at p f ls) ≡ length ls
+kept_length p f ls = length_changed p.line (kept_on p.channel f) ls
+
+pub asked_length : (p : SwitchChannel) (q : Request) (ls : List SwitchLine) → length (ask p q ls) ≡ length ls
+asked_length p q ls = length_changed p.line (λ l. record l { end = asked l.end p.channel q }) ls
+
+pub placed_length : (n : ℕ) (parts : CallParts) (ls : List SwitchLine) → length (place_call n parts ls) ≡ length ls
+placed_length n parts ls = length_changed n (λ l. record l { end = called l.end parts }) ls
 
 -- ---- joins
 

@@ -25,12 +25,13 @@ use Rattle.switch_joins.specs.Turning.{Sizes, Gathered, nothing_gathered, Turn, 
 use Rattle.switch_joins.proofs.Turning.{one_size}
 use Rattle.switch_joins.specs.Direction.{carried}
 use Rattle.switch_joins.specs.Joins.{gathered_by}
-use Rattle.switch_lines.specs.Lines.{SwitchChannel, Joined, SwitchLine, joined_at, ask, ask_all, front_at, front_of_line, sizes_at, takes_at, takes_all, takes_on_channel, takes_on_line}
+use Rattle.switch_lines.specs.Lines.{SwitchChannel, Joined, SwitchLine, joined_at, ask, ask_all, front_at, sizes_at, takes_at, takes_all, takes_on_channel, takes_on_line}
+use Rattle.joined_line.specs.OfLine.{kept_on}
 use Rattle.switch_lines.specs.Relay.{requests_for, due_at, carried_by, moved, moved_joined, moved_front, moved_if, freed, with_kept, relayed}
 use Rattle.switch_lines.specs.ByPlace.{kept_at, freed_at, made_due, Fits, TakesFront, passed_on, sent_on, MovesFront}
 use Rattle.switch_lines.specs.Waiting.{IsStuck}
-use Rattle.switch_lines.proofs.Places.{joined_asked, joined_asks, joined_here, sizes_asked, kept_joined, freed_joined, freed_kept}
-use Rattle.switch_lines.proofs.Rounds.{same_length, counts_asked}
+use Rattle.switch_lines.proofs.Places.{asked_length, joined_asked, joined_asks, joined_here, sizes_asked, kept_joined, freed_joined, freed_kept}
+use Rattle.switch_lines.proofs.Changing.{length_changed}
 
 -- ---- whether packets or an interrupt are taken
 
@@ -275,14 +276,27 @@ whole_on d ls p q same none =
     ap (λ (turn : Turn). kept_at p (carried d.delivery turn) (ask_all q (map Sending turn.made) (ask p Taking ls)))
     (sym (one_size (sizes_at ls p q) (gathered_by (joined_at ls p)) d same (ap (λ (g : Gathered). length g.octets) none)))
 
--- as many lines
-pub asked_length : (p : SwitchChannel) (q : Request) (ls : List SwitchLine) → length (ask p q ls) ≡ length ls
-asked_length p q ls = same_length (ask p q ls) ls (counts_asked p q ls)
-
 -- where something is shown, something is taken
 pub shown_taken : (o : Option Taken) (f : Front) → None ≡ o → Some f ≡ maybe_front o → ⊥
 shown_taken None f none shown = none-some f (sym shown)
 shown_taken (Some t) f none shown = none-some t none
+
+asks_length : (p : SwitchChannel) (qs : List Request) (ls : List SwitchLine) → length (ask_all p qs ls) ≡ length ls
+asks_length p [] ls = refl
+asks_length p (q ∷ qs) ls = asks_length p qs (ask p q ls) ∙ asked_length p q ls
+
+passed_length : (s : Sizes) (g : Gathered) (t : Taken) (p q : SwitchChannel) (ls : List SwitchLine) → length (passed_on s g t p q ls) ≡ length ls
+passed_length s g (TakenInterrupt octets) p q ls = asked_length q (Interrupting octets) ls
+passed_length s g (TakenPacket d) p q ls =
+    let sent = map Sending (turned s g d).made in
+    length_changed p.line (kept_on p.channel (carried d.delivery (turned s g d))) (ask_all q sent ls) ∙ asks_length q sent ls
+
+pub moves_length : (ls new : List SwitchLine) (p q : SwitchChannel) (f : Front) (o : Option Taken) → o ≡ front_at ls p →
+    Some f ≡ maybe_front (front_at ls p) → MovesFront o p q ls new → length new ≡ length ls
+moves_length ls new p q f None at shown moved_on = absurd (shown_taken (front_at ls p) f at shown)
+moves_length ls new p q f (Some t) at shown moved_on =
+    ap (λ (xs : List SwitchLine). length xs) moved_on.0
+    ∙ passed_length (sizes_at ls p q) (gathered_by (joined_at ls p)) t p q (ask p Taking ls) ∙ asked_length p Taking ls
 
 pub moves_front : (ls new : List SwitchLine) (p q : SwitchChannel) (f : Front) (o : Option Taken) → o ≡ front_at ls p →
     Some q ≡ option_map (λ j. j.other) (joined_at ls p) → Some f ≡ maybe_front (front_at ls p) → TakesFront true ls p q →
@@ -290,16 +304,6 @@ pub moves_front : (ls new : List SwitchLine) (p q : SwitchChannel) (f : Front) (
 moves_front ls new p q f None at joined shown taken moved_on = absurd (shown_taken (front_at ls p) f at shown)
 moves_front ls new p q f (Some t) at joined shown taken moved_on =
     ap (λ (xs : List SwitchLine). freed_at p xs) moved_on.0 ∙ moves ls p q t joined at moved_on.1 taken
-
-front_within : (ls : List SwitchLine) (n c : ℕ) (f : Front) → Some f ≡ maybe_front (front_of_line (slice_get ls n) c) →
-    n < length ls
-front_within [] n c f shown = absurd (none-some f (sym shown))
-front_within (l ∷ ls) zero c f shown = omega arith
-front_within (l ∷ ls) (suc n) c f shown = let more = front_within ls n c f shown in omega (arith, more)
-
-pub front_there : (ls : List SwitchLine) (p : SwitchChannel) (f : Front) → Some f ≡ maybe_front (front_at ls p) →
-    p.line < length ls
-front_there ls p f shown = front_within ls p.line p.channel f shown
 
 -- ---- several moves
 

@@ -1,8 +1,9 @@
 -- What is left to relay on the lines of a switch, after each call.
 use Rattle.std.proofs.Common.{◌≡◌, ℕ, zero, suc, ◌+◌, ◌<◌, ◌≤◌, ◌⊎◌, inl, inr, Bool, true, false, not, ◌&&◌, if◌then◌else◌, List, [], ◌∷◌, map, length, set, get_or, Option, Some, None, option_map, refl, sym, ap, ap₂, subst, ◌∙◌, true≢false, arith}
-use Rattle.std.specs.Prelude.{slice_get}
+use Rattle.std.specs.Prelude.{slice_get, IfSome}
 use Rattle.std.proofs.lemmas.Bool.{cases_eq, eq-eqb}
 use Rattle.std.proofs.lemmas.Option.{none-some, same_Some}
+use Rattle.std.proofs.lemmas.List.{length-map}
 use Rattle.link_timers.specs.declared.role.Role.{Role}
 use Rattle.number_set.specs.declared.NumberSet.{NumberSet}
 use Rattle.number_set.specs.NumberSet as numbers
@@ -31,7 +32,7 @@ use Rattle.switch_joins.proofs.Slots.{nth_apart}
 use Rattle.switch_joins.proofs.Apart.{decided, place_is}
 use Rattle.switch_joins.proofs.ChannelSets.{and_not_no, IsApart}
 use Rattle.switch_lines.proofs.Relaying.{relayed_stays}
-use Rattle.switch_lines.proofs.Touched.{written_other, others_same}
+use Rattle.switch_lines.proofs.Touched.{written_other, others_same, same_count}
 use Rattle.switch_lines.proofs.Places.{get_unchanged, joined_asked, joined_asks, joined_apart, sizes_same, sizes_asked, sizes_asks, sizes_joined, request_flow}
 
 abbrev Lines : Type 0
@@ -277,10 +278,15 @@ still_held r ls ms p q to a b h = (calm_other ls ms q b ∙ h.0, held p q to a b
             let to : j.other ≡ y = same_Some j.other y (sym (ap (λ (o : Option Joined). option_map (λ (j : Joined). j.other) o) old) ∙ e) in
             (not_taken ls ms x j k t c (subst (λ (z : SwitchChannel). IsCalmAt ls ms z) (sym to) d) old new before.0, before.1)
 
+still_there : (ls ms : Lines) (q : SwitchChannel) → length ms ≡ length ls → q.line < length ls → q.line < length ms
+still_there ls ms q long less = omega (arith, long, less)
+
 -- nothing new is to be relayed
-pub calm_kept : (s r : ChannelSet) (ls ms : Lines) → ((x : SwitchChannel) → IsCalmAt ls ms x) → NothingElseMoves s r ls → NothingElseMoves s r ms
-calm_kept s r ls ms calm i = record {
+pub calm_kept : (s r : ChannelSet) (ls ms : Lines) → length ms ≡ length ls → ((x : SwitchChannel) → IsCalmAt ls ms x) → NothingElseMoves s r ls
+    → NothingElseMoves s r ms
+calm_kept s r ls ms long calm i = record {
   small = λ p q e. i.small p q (sym (calm_other ls ms p (calm p)) ∙ e);
+  there = λ p q e. still_there ls ms q long (i.there p q (sym (calm_other ls ms p (calm p)) ∙ e));
   waits = λ p q e out. let before = sym (calm_other ls ms p (calm p)) ∙ e in still_held r ls ms p q before (calm p) (calm q) (i.waits p q before out);
 }
 
@@ -289,13 +295,13 @@ pub some_kept : (s r : ChannelSet) (t : NumberSet) (f : SwitchLine → SwitchLin
     → ((l : SwitchLine) (d : ℕ) → (leads (nth_joined (f l).joined d) ≡ leads (nth_joined l.joined d)) × IsCalm l.end.layer (f l).end.layer d)
     → NothingElseMoves s r ls → NothingElseMoves s r ms
 some_kept s r t f ls ms is calm i =
-    subst (λ (ks : Lines). NothingElseMoves s r ks) (sym is) (calm_kept s r ls (changed_in t f 0 ls) (λ x. some_calm t f ls x (λ l. calm l x.channel)) i)
+    subst (λ (ks : Lines). NothingElseMoves s r ks) (sym is) (calm_kept s r ls (changed_in t f 0 ls) (same_count t f 0 ls) (λ x. some_calm t f ls x (λ l. calm l x.channel)) i)
 
 pub all_kept : (s r : ChannelSet) (f : SwitchLine → SwitchLine) (ls ms : Lines) → ms ≡ map f ls
     → ((l : SwitchLine) (d : ℕ) → (leads (nth_joined (f l).joined d) ≡ leads (nth_joined l.joined d)) × IsCalm l.end.layer (f l).end.layer d)
     → NothingElseMoves s r ls → NothingElseMoves s r ms
 all_kept s r f ls ms is calm i =
-    subst (λ (ks : Lines). NothingElseMoves s r ks) (sym is) (calm_kept s r ls (map f ls) (λ x. map_calm f ls x (λ l. calm l x.channel)) i)
+    subst (λ (ks : Lines). NothingElseMoves s r ks) (sym is) (calm_kept s r ls (map f ls) (length-map ls f) (λ x. map_calm f ls x (λ l. calm l x.channel)) i)
 
 -- the two legs of a join are neither a channel nor the one that it is joined to
 legs_apart : (s r : ChannelSet) (ls : Lines) (x : SwitchChannel) (v : Option SwitchChannel) (p q : SwitchChannel) → NothingElseMoves s r ls → v ≡ other_at ls x
@@ -310,11 +316,12 @@ legs_apart s r ls x (Some z) p q i at e f a = (
 )
 
 -- one channel is touched
-pub touched_kept : (s t r : ChannelSet) (ls ms : Lines) (x : SwitchChannel) (o : Option SwitchChannel) → o ≡ other_at ls x
+pub touched_kept : (s t r : ChannelSet) (ls ms : Lines) (x : SwitchChannel) (o : Option SwitchChannel) → length ms ≡ length ls → o ≡ other_at ls x
     → ((p : SwitchChannel) → has t p ≡ false → (has s p ≡ false) × IsApart p x o) → ((y : SwitchChannel) → other_at ms y ≡ other_at ls y)
     → ((y : SwitchChannel) → is_small y ≡ true → same_place y x ≡ false → IsCalmAt ls ms y) → NothingElseMoves s r ls → NothingElseMoves t r ms
-touched_kept s t r ls ms x o is touches same calm i = record {
+touched_kept s t r ls ms x o long is touches same calm i = record {
   small = λ p q e. i.small p q (sym (same p) ∙ e);
+  there = λ p q e. still_there ls ms q long (i.there p q (sym (same p) ∙ e));
   waits = λ p q e out.
       let before = sym (same p) ∙ e in
       let a = touches p out in
@@ -328,12 +335,14 @@ touched_kept s t r ls ms x o is touches same calm i = record {
     by_place y small apart (inr f) = calm y small f
 
 -- a channel is joined, or its join ends
-pub joined_kept : (s t r : ChannelSet) (ls ms : Lines) (x : SwitchChannel) (o : Option SwitchChannel)
+pub joined_kept : (s t r : ChannelSet) (ls ms : Lines) (x : SwitchChannel) (o : Option SwitchChannel) → length ms ≡ length ls
+    → ((q : SwitchChannel) → o ≡ Some q → q.line < length ls)
     → ((p : SwitchChannel) → has t p ≡ false → (has s p ≡ false) × IsApart p x (other_at ls x) × IsApart p x o)
     → ((y : SwitchChannel) → same_place y x ≡ false → IsCalmAt ls ms y)
     → ((q : SwitchChannel) → other_at ms x ≡ Some q → (o ≡ Some q) × (is_small x ≡ true)) → NothingElseMoves s r ls → NothingElseMoves t r ms
-joined_kept s t r ls ms x o touches calm new i = record {
+joined_kept s t r ls ms x o long to touches calm new i = record {
   small = λ p q e. small p q e (decided (same_place p x));
+  there = λ p q e. still_there ls ms q long (there_ p q e (decided (same_place p x)));
   waits = λ p q e out. waits p q e (touches p out) (decided (same_place p x)) (decided (same_place q x));
 }
   where
@@ -341,6 +350,10 @@ joined_kept s t r ls ms x o touches calm new i = record {
     small p q e (inl here) =
         let at = place_is p x here in ap is_small at ∙ (new q (sym (ap (λ z. other_at ms z) at) ∙ e)).1
     small p q e (inr apart) = i.small p q (sym (calm_other ls ms p (calm p apart)) ∙ e)
+
+    there_ : (p q : SwitchChannel) → other_at ms p ≡ Some q → (same_place p x ≡ true) ⊎ (same_place p x ≡ false) → q.line < length ls
+    there_ p q e (inl here) = to q (new q (sym (ap (λ z. other_at ms z) (place_is p x here)) ∙ e)).0
+    there_ p q e (inr apart) = i.there p q (sym (calm_other ls ms p (calm p apart)) ∙ e)
 
     waits : (p q : SwitchChannel) → other_at ms p ≡ Some q → (has s p ≡ false) × IsApart p x (other_at ls x) × IsApart p x o
         → (same_place p x ≡ true) ⊎ (same_place p x ≡ false) → (same_place q x ≡ true) ⊎ (same_place q x ≡ false) → AreHeldBack r ms p q
@@ -362,7 +375,11 @@ pub stopped : (s t r u : ChannelSet) (ls : Lines) (p q : SwitchChannel) → othe
     → ((v : Taken) → front_at ls p ≡ Some v → has u q ≡ true) → ((v : Taken) → front_at ls q ≡ Some v → has u p ≡ true)
     → ((x : SwitchChannel) → has r x ≡ true → has u x ≡ true)
     → ((x : SwitchChannel) → has t x ≡ false → (has s x ≡ false) ⊎ (x ≡ p) ⊎ (x ≡ q)) → NothingElseMoves s r ls → NothingElseMoves t u ls
-stopped s t r u ls p q to back here there known_there known_here more out_of i = record { small = i.small; waits = λ x y e out. by_place x y e (out_of x out) }
+stopped s t r u ls p q to back here there known_there known_here more out_of i = record {
+  small = i.small;
+  there = i.there;
+  waits = λ x y e out. by_place x y e (out_of x out);
+}
   where
     grown : (x y : SwitchChannel) → IsHeldBack r ls x y → IsHeldBack u ls x y
     grown x y h j v at e = let old = h j v at e in (old.0, more y old.1)
@@ -385,7 +402,11 @@ stopped s t r u ls p q to back here there known_there known_here more out_of i =
 -- a channel that is not joined need not be relayed
 pub forgotten : (s t r : ChannelSet) (ls : Lines) (x : SwitchChannel) → other_at ls x ≡ None
     → ((p : SwitchChannel) → has t p ≡ (has s p && not (is_small x && same_place p x))) → NothingElseMoves s r ls → NothingElseMoves t r ls
-forgotten s t r ls x none removes i = record { small = i.small; waits = λ p q e out. i.waits p q e (before p q e out (decided (same_place p x))) }
+forgotten s t r ls x none removes i = record {
+  small = i.small;
+  there = i.there;
+  waits = λ p q e out. i.waits p q e (before p q e out (decided (same_place p x)));
+}
   where
     before : (p q : SwitchChannel) → other_at ls p ≡ Some q → has t p ≡ false → (same_place p x ≡ true) ⊎ (same_place p x ≡ false) → has s p ≡ false
     before p q e out (inl here) = absurd (none-some q (sym none ∙ sym (ap (λ z. other_at ls z) (place_is p x here)) ∙ e))
@@ -394,7 +415,11 @@ forgotten s t r ls x none removes i = record { small = i.small; waits = λ p q e
 
 -- no channel is joined
 pub none_joined : (s r : ChannelSet) (ls : Lines) → ((p q : SwitchChannel) → other_at ls p ≡ Some q → ⊥) → NothingElseMoves s r ls
-none_joined s r ls none = record { small = λ p q e. absurd (none p q e); waits = λ p q e out. absurd (none p q e) }
+none_joined s r ls none = record {
+  small = λ p q e. absurd (none p q e);
+  there = λ p q e. absurd (none p q e);
+  waits = λ p q e out. absurd (none p q e);
+}
 
 -- ---- stuck channels
 
@@ -547,6 +572,22 @@ pub relayed_stuck : (most : ℕ) (x p : SwitchChannel) (ls : Lines) → IsStuck 
 relayed_stuck zero x p ls stuck = stuck
 relayed_stuck (suc most) x p ls stuck = relayed_stuck most x p (moved x ls) (moved_stuck x p ls stuck)
 
+-- ---- the two channels of a join are there
+
+joined_on_some : (ls : Lines) (n c : ℕ) (q : SwitchChannel) → option_map (λ (j : Joined). j.other) (joined_on (slice_get ls n) c) ≡ Some q → n < length ls
+joined_on_some [] n c q e = absurd (none-some q e)
+joined_on_some (l ∷ ls) zero c q e = omega arith
+joined_on_some (l ∷ ls) (suc n) c q e = let more = joined_on_some ls n c q e in omega (arith, more)
+
+-- where a channel is joined, it is one of the lines
+pub joined_there : (ls : Lines) (p q : SwitchChannel) → other_at ls p ≡ Some q → p.line < length ls
+joined_there ls p q e = joined_on_some ls p.line p.channel q e
+
+pub both_there : (s r : ChannelSet) (ls : Lines) (p : SwitchChannel) (o : Option SwitchChannel) → o ≡ other_at ls p → NothingElseMoves s r ls
+    → IfSome o (λ (q : SwitchChannel). (p.line < length ls) × (q.line < length ls))
+both_there s r ls p None e i = tt
+both_there s r ls p (Some q) e i = (joined_there ls p q (sym e), i.there p q (sym e))
+
 -- ---- joins that are not to be relayed
 
 pub held_stuck : (s r : ChannelSet) (ls : Lines) (p q : SwitchChannel) → NothingElseMoves s r ls → other_at ls p ≡ Some q → has s p ≡ false
@@ -612,6 +653,7 @@ pub offered_kept : (s r : ChannelSet) (t : NumberSet) (ls ms : Lines) → ms ≡
     → ((x : SwitchChannel) → is_small x ≡ true → numbers.has t x.line ≡ true → has r x ≡ false) → NothingElseMoves s r ls → NothingElseMoves s r ms
 offered_kept s r t ls ms is none i = subst (λ (ks : Lines). NothingElseMoves s r ks) (sym is) (record {
   small = λ p q e. i.small p q (sym (offered_other t ls p) ∙ e);
+  there = λ p q e. still_there ls after q (same_count t (with_end all_offered) 0 ls) (i.there p q (sym (offered_other t ls p) ∙ e));
   waits = λ p q e out.
       let there = sym (offered_other t ls p) ∙ e in
       let h = i.waits p q there out in
@@ -646,6 +688,7 @@ pub looked_at : (s t r u : ChannelSet) (ls : Lines) (x : SwitchChannel) → ((p 
     → ((p : SwitchChannel) → has u p ≡ (has r p && not (is_small x && same_place p x))) → NothingElseMoves s r ls → NothingElseMoves t u ls
 looked_at s t r u ls x touches removes i = record {
   small = i.small;
+  there = i.there;
   waits = λ p q e out.
       let a = touches p out in
       let h = i.waits p q e a.0 in

@@ -15,7 +15,7 @@ pub use Rattle.switch_joins.specs.declared.channels.SwitchChannel.{SwitchChannel
 pub use Rattle.switch_joins.specs.Joins.{Joined, same_place, flat, nth_joined, with_nth_joined}
 -- a line: its end, the address that calls from it get as their calling address, if it has one, and of its channels 1, 2
 -- and so on those that are joined; one without an address is a trunk
-pub use Rattle.joined_line.specs.Line.{SwitchLine, is_trunk}
+pub use Rattle.joined_line.specs.SwitchLine.{SwitchLine, is_trunk}
 
 -- the switch's role on a line
 abbrev pub role_on : Option SwitchLine → Option Role

@@ -20,7 +20,7 @@ use Rattle.switch_lines.specs.Lines.{SwitchChannel, SwitchLine, changed, with_jo
 use Rattle.switch_lines.specs.Relay.{told, relayed_first}
 -- what happens at the end of a line, whether its link takes a packet that it has, what a restart leaves of it, and
 -- whether it is at rest
-pub use Rattle.joined_line.specs.Line.{with_end, quieted, may_offer, without_joins, line_rests}
+pub use Rattle.joined_line.specs.SwitchLine.{with_end, quieted, may_offer, without_joins, line_rests}
 
 pub record Switch : Type 0 where
   pub routes : RouteMap

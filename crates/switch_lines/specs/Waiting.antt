@@ -1,6 +1,6 @@
 -- Which joins of a switch an event has to relay: those on which something happened. On the others nothing waits that
 -- the other leg takes.
-use Rattle.std.specs.Prelude.{◌≡◌, true, false, List, Option, Some}
+use Rattle.std.specs.Prelude.{◌≡◌, ◌<◌, true, false, List, length, Option, Some}
 use Rattle.std.specs.Option.{option_map}
 use Rattle.data_transfer.specs.Traffic.{Taken}
 use Rattle.switch_joins.specs.ChannelSet.{has, is_small}
@@ -29,7 +29,9 @@ abbrev pub AreHeldBack : (refusing : ChannelSet) → List SwitchLine → (p q : 
 AreHeldBack refusing ls p q =
     (other_at ls q ≡ Some p) × IsHeldBack refusing ls p q × IsHeldBack refusing ls q p
 
--- of a join that is not to be relayed, the two channels are joined to each other, and what waits on them is held back
+-- each join leads to one of the lines; of one that is not to be relayed, the two channels are joined to each other, and
+-- what waits on them is held back
 pub record NothingElseMoves (to_relay refusing : ChannelSet) (ls : List SwitchLine) : Type 0 where
   pub small : (p q : SwitchChannel) → other_at ls p ≡ Some q → is_small p ≡ true
+  pub there : (p q : SwitchChannel) → other_at ls p ≡ Some q → q.line < length ls
   pub waits : (p q : SwitchChannel) → other_at ls p ≡ Some q → has to_relay p ≡ false → AreHeldBack refusing ls p q

@@ -1,7 +1,7 @@
 //! The lines of a switch, and what is asked of their channels.
-ghost use Rattle.std.specs.Prelude.{◌≡◌, ◌≤◌, ◌<◌, ◌∷◌, [], Some, length, map, slice_get, MatchResult};
+ghost use Rattle.std.specs.Prelude.{◌≡◌, ◌≤◌, ◌<◌, ◌∷◌, [], Some, IfSome, length, map, slice_get, MatchResult};
 ghost use Rattle.std.specs.List.{list_all};
-ghost use Rattle.std.specs.Option.{option_map};
+ghost use Rattle.std.specs.Option.{option_map, ForSome};
 ghost use Rattle.std.specs.Bool.{OnTrue, OnFalse};
 ghost use Rattle.packet_layer.specs.RequestView.{request_of};
 ghost use Rattle.data_transfer.specs.TakenView.{maybe_front};
@@ -73,7 +73,7 @@ impl Model for Lines {
     ghost invariant = { AreLines };
 }
 
-// How many buffers lines need together.
+/// How many buffers lines need together.
 fn buffers_for(lines: &[SwitchLineConfig]) -> usize
     requires { IsConfig lines.now }
     ensures { result ≡ shares_with lines.now }
@@ -85,7 +85,7 @@ fn buffers_for(lines: &[SwitchLineConfig]) -> usize
     total
 }
 
-// The most octets that a buffer of lines has to hold.
+/// The most octets that a buffer of lines has to hold.
 fn octets_for(lines: &[SwitchLineConfig]) -> u16
     requires { IsConfig lines.now }
     ensures value { result ≡ greatest_info lines.now }
@@ -98,14 +98,14 @@ fn octets_for(lines: &[SwitchLineConfig]) -> u16
     most
 }
 
-// The channel that a channel is joined to, if it is.
+/// The channel that a channel is joined to, if it is.
 fn other_of(lines: &[SwitchLine], leg: SwitchChannel) -> Option<SwitchChannel>
     ensures { result ≡ other_at (plain lines.now) leg }
 {
-    lines.get(leg.line)?.other(leg.channel)
+    lines.get(leg.line)?.joins().other(leg.channel)
 }
 
-// The channel that a join leads to, if there is one.
+/// The channel that a join leads to, if there is one.
 fn joined_to(joined: &Option<Joined>) -> Option<SwitchChannel>
     ensures { result ≡ option_map (λ j. j.other) (option_map begun joined.now) }
 {
@@ -115,7 +115,7 @@ fn joined_to(joined: &Option<Joined>) -> Option<SwitchChannel>
     }
 }
 
-// Whether all of these lines are at rest.
+/// Whether all of these lines are at rest.
 fn rest(lines: &[SwitchLine]) -> bool
     ensures { result ≡ list_all (λ p. line_rests p.line) lines.now }
 {
@@ -217,79 +217,74 @@ impl Lines {
         self.touched.with(self.untaken)
     }
 
-    /// The channel that a channel is joined to, if it is.
+    /// The channel that a channel is joined to, if it is. Then both are channels of these lines.
     pub fn other(&self, leg: SwitchChannel) -> Option<SwitchChannel>
-        ensures { result ≡ other_at self.now leg }
+        ensures other { result ≡ other_at self.now leg }
+        ensures there { IfSome result (λ other. (leg.line < length self.now) × (other.line < length self.now)) }
     {
         other_of(&self.lines, leg)
     }
 
-    // Whether a line is there and is a trunk.
+    /// Whether a line is a trunk.
     fn is_trunk(&self, line: usize) -> bool
+        requires { line < length self.now }
         ensures { result ≡ is_trunk (slice_get self.now line) }
     {
-        line < self.lines.len() && self.lines[line].is_trunk()
+        self.lines[line].address().is_none()
     }
 
-    // Joins a channel, or ends its join. What is gathered from there is dropped.
+    /// Joins a channel, or ends its join. What is gathered from there is dropped.
     fn set_joined(&mut self, leg: SwitchChannel, joined: Option<Joined>)
+        requires there { leg.line < length self.old }
+        requires other { ForSome joined (λ j. j.other.line < length self.old) }
         ensures { self.new ≡ with_joined leg (option_map begun joined) self.old }
     {
-        if leg.line < self.lines.len() {
-            self.to_relay.insert_join(leg, other_of(&self.lines, leg));
-            self.to_relay.insert_join(leg, joined_to(&joined));
-            self.lines[leg.line].set_joined(leg.channel, joined, &mut self.pool);
-        }
+        self.to_relay.insert_join(leg, other_of(&self.lines, leg));
+        self.to_relay.insert_join(leg, joined_to(&joined));
+        self.lines[leg.line].set_joined(leg.channel, joined, &mut self.pool);
     }
 
-    // Asks something of a call. What is refused changes nothing.
+    /// Asks something of a call. What is refused changes nothing.
     fn ask(&mut self, leg: SwitchChannel, request: &Request<'_>)
+        requires { leg.line < length self.old }
         ensures { self.new ≡ ask leg (request_of request.now) self.old }
     {
-        if leg.line < self.lines.len() {
-            self.touched.insert(leg.line);
-            self.to_relay.insert_join(leg, other_of(&self.lines, leg));
-            self.lines[leg.line].ask(leg.channel, request, &mut self.pool);
-        }
+        self.touched.insert(leg.line);
+        self.to_relay.insert_join(leg, other_of(&self.lines, leg));
+        self.lines[leg.line].ask(leg.channel, request, &mut self.pool);
     }
 
-    // What `take` would give.
+    /// What `take` would give.
     fn front(&self, leg: SwitchChannel) -> Option<Front>
+        requires { leg.line < length self.now }
         ensures { result ≡ maybe_front (front_at self.now leg) }
     {
-        if leg.line < self.lines.len() {
-            self.lines[leg.line].front(leg.channel, &self.pool)
-        } else {
-            None
-        }
+        self.lines[leg.line].front(leg.channel, &self.pool)
     }
 
-    // Restarts the direction from a joined channel. What is gathered from there is dropped.
+    /// Restarts the direction from a joined channel. What is gathered from there is dropped.
     fn renew(&mut self, leg: SwitchChannel)
+        requires { leg.line < length self.old }
         ensures { self.new ≡ kept_at leg (λ v. new_direction) self.old }
     {
-        if leg.line < self.lines.len() {
-            self.to_relay.insert_join(leg, other_of(&self.lines, leg));
-            self.lines[leg.line].renew(leg.channel, &mut self.pool);
-        }
+        self.to_relay.insert_join(leg, other_of(&self.lines, leg));
+        self.lines[leg.line].renew(leg.channel, &mut self.pool);
     }
 
-    // P(R) covers so many packets more of the channel that a channel is joined to.
+    /// P(R) covers so many packets more of the channel that a channel is joined to.
     fn cover(&mut self, leg: SwitchChannel, count: u8)
+        requires { leg.line < length self.old }
         ensures { self.new ≡ kept_at leg (covered_by count) self.old }
     {
-        if leg.line < self.lines.len() {
-            self.lines[leg.line].cover(leg.channel, count);
-        }
+        self.lines[leg.line].cover(leg.channel, count);
     }
 
-    // Releases what may be released of the packets taken on a joined channel.
+    /// Releases what may be released of the packets taken on a joined channel.
     fn release(&mut self, leg: SwitchChannel)
+        requires { leg.line < length self.old }
         ensures { self.new ≡ freed_at leg self.old }
     {
-        if leg.line < self.lines.len() {
-            self.touched.insert(leg.line);
-            self.lines[leg.line].release(leg.channel, &mut self.pool);
-        }
+        self.touched.insert(leg.line);
+        self.lines[leg.line].release(leg.channel, &mut self.pool);
     }
 }

@@ -1,3 +1,3 @@
 pub mod Sight
 pub mod Network
-pub mod Law
+pub mod SwitchPathLaws

@@ -8,4 +8,4 @@ pub mod Opened
 pub mod Kept
 pub mod Tied
 pub mod DueTimers
-pub mod Law
+pub mod SwitchRecordLaws

@@ -1,5 +1,5 @@
 //! The calls that a switch joined, with the records of their two legs.
-ghost use Rattle.switched_call_laws.specs.JoinedCalls.Law.{CallsLaw};
+ghost use Rattle.switched_call_laws.specs.JoinedCalls.JoinLaws.{CallsLaw};
 
 /// The law of the calls that a switch joined: each has the same two records, in the books of its two lines, from its
 /// making to its end and from then on. While it lasts they are the present records of its channels; when it is over

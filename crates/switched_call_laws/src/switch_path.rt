@@ -1,5 +1,5 @@
 //! What the register of a network of switches has of its calls.
-ghost use Rattle.switched_call_laws.specs.SwitchPaths.Law.{SwitchPathLaw};
+ghost use Rattle.switched_call_laws.specs.SwitchPaths.SwitchPathLaws.{SwitchPathLaw};
 
 /// The law of a network of any number of switches, each at its place, over definitions alone. The switches are a tree;
 /// a line is between two users, between a user and a switch, or a trunk between two switches. Whatever comes to a

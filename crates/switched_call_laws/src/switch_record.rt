@@ -1,7 +1,7 @@
 //! The legs of a switch's calls are the present records of its lines' books.
-ghost use Rattle.switched_call_laws.specs.SwitchRecords.Law.{MadeLaw, ActsLaw, WritesLaw, PartnerLaw, RestLaw, RestsLaw};
-ghost use Rattle.switched_call_laws.specs.SwitchRecords.Law.{JoinsLaw};
-ghost use Rattle.switched_call_laws.specs.SwitchRecords.Law.{FrameLaw, TimerLaw, RelinkLaw, ElapseLaw, RestartLaw};
+ghost use Rattle.switched_call_laws.specs.SwitchRecords.SwitchRecordLaws.{MadeLaw, ActsLaw, WritesLaw, PartnerLaw, RestLaw, RestsLaw};
+ghost use Rattle.switched_call_laws.specs.SwitchRecords.SwitchRecordLaws.{JoinsLaw};
+ghost use Rattle.switched_call_laws.specs.SwitchRecords.SwitchRecordLaws.{FrameLaw, TimerLaw, RelinkLaw, ElapseLaw, RestartLaw};
 ghost use Rattle.switched_call_laws.specs.SwitchRecords.Kept.{StepsLaw, FrameKeptLaw, TimerKeptLaw, RelinkKeptLaw, ElapseKeptLaw};
 ghost use Rattle.switched_call_laws.specs.SwitchRecords.Kept.{RestartKeptLaw, OutLaw, LeadsLaw, LegsLaw};
 ghost use Rattle.switched_call_laws.specs.SwitchRecords.Opened.{ComesLaw, PlacesLaw, HeadLaw, HeadsLaw};

@@ -15,9 +15,9 @@ use Rattle.pad_terminal.specs.declared.answers.CallCondition.{CallCondition}
 use Rattle.pad_terminal.specs.declared.answers.InputAnswer.{InputAnswer}
 use Rattle.pad_terminal.specs.declared.answers.InputAnswer.TheVariants.{Dropped, Edited}
 use Rattle.x3_params.specs.Settings.{recall_character}
-use Rattle.pad_ports.specs.Line.{condition, datum}
+use Rattle.pad_ports.specs.PadLine.{condition, datum}
 use Rattle.pad_ports.specs.Ports.{AtLine}
-use Rattle.x25_pad.specs.Law.{KeyBlocksAreTaken, IdleBlocksAreTaken}
+use Rattle.x25_pad.specs.BlocksTaken.{KeyBlocksAreTaken, IdleBlocksAreTaken}
 
 -- ---- the send queue
 

@@ -6,7 +6,7 @@ use Rattle.std.proofs.lemmas.List.Sums.{fold-append}
 use Rattle.data_transfer.specs.Packets.{Note}
 use Rattle.data_transfer.specs.Packets.Note.{Incoming, Connected, Closed, WasReset, InterruptConfirmed, Covered}
 use Rattle.packet_end.specs.PacketEnd.{without_first_note}
-use Rattle.pad_ports.specs.Line.{learnt_of, all_learnt, last_incoming, about}
+use Rattle.pad_ports.specs.PadLine.{learnt_of, all_learnt, last_incoming, about}
 use Rattle.pad_ports.specs.Notes.{ChannelNote, Told, all_told}
 use Rattle.pad_ports.specs.Ports.{PortState}
 use Rattle.x25_pad.specs.Pad.{PadState, one_learnt, all_heard, holder, holders, told}

@@ -2,5 +2,5 @@ pub mod Pad
 pub mod Sending
 pub mod PadView
 pub mod Making
-pub mod Law
+pub mod BlocksTaken
 pub mod Showing

@@ -8,13 +8,13 @@ use Rattle.data_transfer.specs.Packets.{Note}
 use Rattle.data_transfer.specs.Traffic.{Taken as TakenValue}
 use Rattle.packet_end.specs.PacketEnd.{Octets, PacketEnd}
 use Rattle.packet_end.specs.PacketEnd as end
-use Rattle.pad_ports.specs.Line as line
-use Rattle.pad_ports.specs.Line.{gathered, last_incoming, learnt_of, all_learnt, about}
+use Rattle.pad_ports.specs.PadLine as line
+use Rattle.pad_ports.specs.PadLine.{gathered, last_incoming, learnt_of, all_learnt, about}
 use Rattle.pad_ports.specs.Notes.{ChannelNote, PadNote, first_terminal}
 use Rattle.pad_ports.specs.Ports as port
 use Rattle.pad_ports.specs.Ports.{PortState, AtLine}
-use Rattle.pad_ports.specs.declared.call.CallNote.{CallNote}
-use Rattle.pad_ports.specs.declared.line.PadLine.{PadLine}
+use Rattle.pad_ports.specs.declared.call.PortNote.{PortNote}
+use Rattle.pad_ports.specs.PadLine.{PadLine}
 use Rattle.x25_pad.specs.declared.answer.PadAnswer.{PadAnswer}
 use Rattle.x25_pad.specs.declared.answer.PadAnswer.TheVariants as answer
 
@@ -48,18 +48,18 @@ at_port number act p =
 -- ---- what the packet layer tells
 
 -- the terminal whose call is on the channel learns what became of it
-abbrev pub learnt_at : Option ℕ → CallNote → List PortState → List PortState
+abbrev pub learnt_at : Option ℕ → PortNote → List PortState → List PortState
 learnt_at None note ports = ports
 learnt_at (Some number) note ports = changed_at number (port.learns note) ports
 
 abbrev pub holder : (channel : ℕ) → List PortState → Option ℕ
 holder channel ports = position (λ p. port.has_channel p.call channel) ports
 
-abbrev pub one_learnt : List PortState → CallNote → List PortState
+abbrev pub one_learnt : List PortState → PortNote → List PortState
 one_learnt ports note = learnt_at (holder (port.channel_of note) ports) note ports
 
 -- one note after the other
-unfoldable pub all_heard : List CallNote → List PortState → List PortState
+unfoldable pub all_heard : List PortNote → List PortState → List PortState
 all_heard notes ports = fold one_learnt ports notes
 
 -- each note is of the terminal that has the call on its channel when it is told

@@ -13,8 +13,9 @@ mod terminals;
 
 use crate::config::PadConfig;
 use data_transfer::DEFAULT_SIZE;
-use packet_end::EndFault;
-use pad_ports::{ChannelNote, MOST_NOTES, NotedAt, PadEnd, PadLine, PadNote, PadNotes, Port};
+use link_timers::Role;
+use packet_end::{EndFault, PacketEnd};
+use pad_ports::{ChannelNote, MOST_NOTES, NotedAt, PadLine, PadNote, PadNotes, Port};
 use std::alloc::{AllocError, Global};
 use std::marker::Model;
 use x3_params::Params;
@@ -75,7 +76,7 @@ impl Pad {
         let ports = new_ports(alloc, config.params, standing, config.terminals)?;
         let notes = PadNotes::new(alloc)?;
         let noted_at = NotedAt::new(alloc)?;
-        let end = PadEnd::new(alloc, config.line)?;
+        let end = PacketEnd::new(alloc, Role::Dte, config.line)?;
         let line = PadLine { end, notes };
         Ok(Pad {
             line,
@@ -119,6 +120,7 @@ impl Pad {
     /// How many notes of the event are not yet read.
     pub fn waiting_notes(&self) -> usize
         ensures count { result ≡ length self.now.line.notes }
+        ensures named { spec.IsEachNamed self.now }
         ensures most { result ≤ MOST_NOTES }
     {
         self.line.notes.len()
@@ -133,7 +135,7 @@ impl Pad {
     }
 }
 
-// So many ports, the first with the call that stands, if one does.
+/// So many ports, the first with the call that stands, if one does.
 #[tactic(auto, using(crate::proofs::Making::one_port_more))]
 fn new_ports(
     alloc: Global,

@@ -114,7 +114,7 @@ fn next_facility(asked: Asked, octets: &[u8]) -> Result<(Asked, &[u8]), Facility
     with_value(asked, code, value, rest)
 }
 
-// The facility of this code and first value, of which the second value stands first.
+/// The facility of this code and first value, of which the second value stands first.
 #[tactic(auto, using(crate::proofs::Asking::without_other))]
 fn with_value(
     asked: Asked,
@@ -133,7 +133,7 @@ fn with_value(
     before(asked, rest)
 }
 
-// What is asked for so far, and the facilities that follow.
+/// What is asked for so far, and the facilities that follow.
 fn before(asked: Result<Asked, FacilityFault>, rest: &[u8]) -> Result<(Asked, &[u8]), FacilityFault>
     ensures same { asked_after result ≡ asked_then asked rest.now }
     ensures rest { IfOk result (λ next. next.1.now ≡ rest.now) }

@@ -139,7 +139,7 @@ const fn row(line: LineFlow, facilities: &'static [u8], fault: Option<FacilityFa
     }
 }
 
-// Facilities of a Linux system, and of others by the standard.
+/// Facilities of a Linux system, and of others by the standard.
 fn fields() -> [Field; 15] {
     let not_carried = Some(FacilityFault::NotCarried);
     [

@@ -18,8 +18,8 @@ use Rattle.xot_gateway.specs.declared.states.FirstMove.TheVariants as first_is
 use Rattle.xot_gateway.specs.declared.connection.Connection.{Connection}
 use Rattle.xot_gateway.specs.declared.connection.Socket.{Socket}
 use Rattle.xot_gateway.specs.declared.connection.Socket.TheVariants.{Absent, Wanted, Opening, Standing}
-use Rattle.xot_gateway.specs.declared.connection.CallState.{CallState}
-use Rattle.xot_gateway.specs.declared.connection.CallState.TheVariants.{NoCall, Call, Cleared, Confirmed, Ending, Broken}
+use Rattle.xot_gateway.specs.declared.connection.ConnectionCall.{ConnectionCall}
+use Rattle.xot_gateway.specs.declared.connection.ConnectionCall.TheVariants.{NoCall, Call, Cleared, Confirmed, Ending, Broken}
 use Rattle.xot_gateway.specs.declared.connection.Wish.{Wish}
 use Rattle.xot_gateway.specs.declared.connection.Wish.TheVariants.{Rests, Connects, Closes}
 use Rattle.xot_gateway.specs.States.{line_move, connection_move, fault_move}
@@ -105,7 +105,7 @@ hears_by line p place c Confirms =
 hears_by line p place c Drops = with_dropped line p c c (nothing_more line c c refl)
 hears_by line p place c (Refuses refusal) = with_dropped line p c c (nothing_more line c c refl)
 
-hears_in : (line : XotLine) (p : Said) (place : ℕ) (c : Connection) (state : CallState)
+hears_in : (line : XotLine) (p : Said) (place : ℕ) (c : Connection) (state : ConnectionCall)
     → Grows line (p ∷ []) [] c (heard_in line p.content p.octets place c state).connection
 hears_in line p place c (Call own phase) = hears_by line p place c (line_move phase p.content)
 hears_in line p place c NoCall = with_dropped line p c c (nothing_more line c c refl)
@@ -166,7 +166,7 @@ ends_if : (line : XotLine) (c : Connection) (b : Bool) → Grows line [] [] c (c
 ends_if line c true = nothing_more line c _ refl
 ends_if line c false = nothing_more line c c refl
 
-serves_in : (line : XotLine) (free : Result ℕ ℕ) (octets : List ℕ) (c : Connection) (state : CallState)
+serves_in : (line : XotLine) (free : Result ℕ ℕ) (octets : List ℕ) (c : Connection) (state : ConnectionCall)
     → Grows line [] [] c (served_in line free octets c state).connection
 serves_in line free octets c NoCall =
     serves_first line octets c (read_on line octets) (first_move line.flow free octets (read_on line octets))
@@ -197,7 +197,7 @@ stands_from line c Wanted = nothing_more line c c refl
 stands_from line c Opening = nothing_more line c _ refl
 stands_from line c Standing = nothing_more line c c refl
 
-restarts_in : (line : XotLine) (c : Connection) (state : CallState) → Grows line [] [] c (restarted_in line c state)
+restarts_in : (line : XotLine) (c : Connection) (state : ConnectionCall) → Grows line [] [] c (restarted_in line c state)
 restarts_in line c (Call place DteWaiting) = clear_told line (after_call c Cleared) c place _ refl
 restarts_in line c (Call place DceWaiting) = clear_told line (after_call c Cleared) c place _ refl
 restarts_in line c (Call place DataTransfer) = clear_told line (after_call c Cleared) c place _ refl

@@ -7,8 +7,8 @@ use Rattle.xot_gateway.specs.declared.line.XotLine.{XotLine}
 use Rattle.xot_gateway.specs.declared.states.ChannelState.{ChannelState}
 use Rattle.xot_gateway.specs.declared.states.ChannelState.TheVariants.{Ready, ToClear, Clearing, ToConfirm}
 use Rattle.xot_gateway.specs.declared.connection.Connection.{Connection}
-use Rattle.xot_gateway.specs.declared.connection.CallState.{CallState}
-use Rattle.xot_gateway.specs.declared.connection.CallState.TheVariants.{Call}
+use Rattle.xot_gateway.specs.declared.connection.ConnectionCall.{ConnectionCall}
+use Rattle.xot_gateway.specs.declared.connection.ConnectionCall.TheVariants.{Call}
 use Rattle.xot_gateway.specs.declared.calls.LineState.{LineState}
 use Rattle.xot_gateway.specs.declared.calls.LineState.TheVariants as line_is
 use Rattle.xot_gateway.specs.declared.calls.XotCalls.{XotCalls}
@@ -38,7 +38,7 @@ abbrev pub place_of : (channel : ℕ) → Option ℕ
 place_of channel = if channel == 0 then None else if nat_lt (channel - 1) 256 then Some (channel - 1) else None
 
 -- the channel of a call that has lost its connection is in this state
-abbrev pub left_by : CallState → Option ChannelState → List ChannelState → List ChannelState
+abbrev pub left_by : ConnectionCall → Option ChannelState → List ChannelState → List ChannelState
 left_by (Call place phase) (Some state) channels = set channels place state
 left_by call leaves channels = channels
 

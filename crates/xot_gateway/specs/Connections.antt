@@ -23,8 +23,8 @@ use Rattle.xot_gateway.specs.declared.states.FirstMove.TheVariants as first_is
 use Rattle.xot_gateway.specs.declared.connection.Connection.{Connection}
 use Rattle.xot_gateway.specs.declared.connection.Socket.{Socket}
 use Rattle.xot_gateway.specs.declared.connection.Socket.TheVariants.{Absent, Wanted, Opening, Standing}
-use Rattle.xot_gateway.specs.declared.connection.CallState.{CallState}
-use Rattle.xot_gateway.specs.declared.connection.CallState.TheVariants.{NoCall, Call, Cleared, Confirmed, Ending, Broken}
+use Rattle.xot_gateway.specs.declared.connection.ConnectionCall.{ConnectionCall}
+use Rattle.xot_gateway.specs.declared.connection.ConnectionCall.TheVariants.{NoCall, Call, Cleared, Confirmed, Ending, Broken}
 use Rattle.xot_gateway.specs.declared.connection.Served as code
 use Rattle.xot_gateway.specs.declared.connection.Wish.{Wish}
 use Rattle.xot_gateway.specs.declared.connection.Wish.TheVariants.{Rests, Connects, Closes}
@@ -55,7 +55,7 @@ abbrev pub in_phase : Connection → (place : ℕ) → Phase → Connection
 in_phase c place phase = record c { call = Call place phase; left = left_in phase }
 
 -- the call has ended, and the other side is to act
-abbrev pub after_call : Connection → CallState → Connection
+abbrev pub after_call : Connection → ConnectionCall → Connection
 after_call c state = record c { call = state; left = Some peer_ticks }
 
 -- nothing more is written
@@ -78,7 +78,7 @@ alone_in DteClear = Clearing
 alone_in DceClear = ToConfirm
 alone_in _ = ToClear out_of_order
 
-abbrev pub alone_after : CallState → Option ChannelState
+abbrev pub alone_after : ConnectionCall → Option ChannelState
 alone_after (Call place phase) = Some (alone_in phase)
 alone_after _ = None
 
@@ -106,7 +106,7 @@ heard_by line content octets place c _ = stays c
 abbrev pub heard : XotLine → ContentValue → (octets : List ℕ) → (place : ℕ) → Phase → Connection → Step
 heard line content octets place phase c = heard_by line content octets place c (line_move phase content)
 
-abbrev pub heard_in : XotLine → ContentValue → (octets : List ℕ) → (place : ℕ) → Connection → CallState → Step
+abbrev pub heard_in : XotLine → ContentValue → (octets : List ℕ) → (place : ℕ) → Connection → ConnectionCall → Step
 heard_in line content octets place c (Call own phase) = heard line content octets place phase c
 heard_in line content octets place c _ = stays c
 
@@ -215,14 +215,14 @@ is_end (Ok p) = ends p.content
 is_end (Err fault) = false
 
 -- the packet that came, prepared, by what the call is in
-abbrev pub served_in : XotLine → (free : Result ℕ ℕ) → (octets : List ℕ) → Connection → CallState → Serving
+abbrev pub served_in : XotLine → (free : Result ℕ ℕ) → (octets : List ℕ) → Connection → ConnectionCall → Serving
 served_in line free octets c NoCall = first_served line free octets c
 served_in line free octets c (Call place phase) = in_call line place phase octets c (read_on line octets)
 served_in line free octets c Cleared = quiet (if is_end (read_on line octets) then after_call c Ending else c)
 served_in line free octets c _ = quiet c
 
 -- the place of its channel: that of its call, or the free one
-abbrev pub place_in : Result ℕ ℕ → CallState → ℕ
+abbrev pub place_in : Result ℕ ℕ → ConnectionCall → ℕ
 place_in free (Call place phase) = place
 place_in (Ok place) state = place
 place_in (Err cause) state = 0
@@ -259,17 +259,17 @@ next_packet old (Some s) = packet_after old s
 
 -- ---- the connection itself
 
-abbrev pub has_use : CallState → Bool
+abbrev pub has_use : ConnectionCall → Bool
 has_use NoCall = true
 has_use (Call place phase) = true
 has_use Cleared = true
 has_use _ = false
 
-abbrev pub is_broken : CallState → Bool
+abbrev pub is_broken : ConnectionCall → Bool
 is_broken Broken = true
 is_broken _ = false
 
-abbrev pub is_at : (place : ℕ) → CallState → Bool
+abbrev pub is_at : (place : ℕ) → ConnectionCall → Bool
 is_at place (Call own phase) = own == place
 is_at place _ = false
 
@@ -311,7 +311,7 @@ written count c = record c { stream = record c.stream { output = drop count c.st
 
 -- the line restarts: a call is cleared with cause 9, out of order; a Clear of the connection is confirmed, and one that
 -- went to the connection stands
-abbrev pub restarted_in : XotLine → Connection → CallState → Connection
+abbrev pub restarted_in : XotLine → Connection → ConnectionCall → Connection
 restarted_in line c (Call place DteClear) = told (after_call c Confirmed) (confirmation_on line place)
 restarted_in line c (Call place DceClear) = record c { call = Cleared }
 restarted_in line c (Call place phase) = told (after_call c Cleared) (clear_on line place out_of_order)
@@ -327,7 +327,7 @@ elapsed ticks c = record c { left = lowered ticks c.left }
 -- ---- what is to be done with it
 
 -- it is closed if the other side was to act and did not, if it is broken, and if its call has ended and all is written
-abbrev pub wish_in : Socket → (due written_out : Bool) → CallState → Wish
+abbrev pub wish_in : Socket → (due written_out : Bool) → ConnectionCall → Wish
 wish_in Absent due written_out state = Rests
 wish_in socket true written_out state = Closes
 wish_in socket false written_out Broken = Closes
@@ -340,7 +340,7 @@ abbrev pub wished : Connection → Wish
 wished c = wish_in c.socket (is_due c.left) (length c.stream.output == 0) c.call
 
 -- what the channel of the call is in then, if there is a call
-abbrev pub leaves_when : Wish → CallState → Option ChannelState
+abbrev pub leaves_when : Wish → ConnectionCall → Option ChannelState
 leaves_when Closes state = alone_after state
 leaves_when wish state = None
 

@@ -50,7 +50,7 @@ ghost use Rattle.xot_gateway.specs.Calls.{
   with_paid,
 };
 
-use crate::connection::{CallState, Connection, Wish};
+use crate::connection::{Connection, ConnectionCall, Wish};
 use crate::line::XotLine;
 use crate::packets::{
     read_on, write_clear, write_confirmation, write_restart, write_restart_confirmation,
@@ -151,7 +151,7 @@ impl XotCalls {
         self.end_calls(LineState::Down);
     }
 
-    // Each call is cleared with cause 9, and no channel owes the line anything.
+    /// Each call is cleared with cause 9, and no channel owes the line anything.
     fn end_calls(&mut self, state: LineState)
         ensures { AllEnd state self.old self.new }
     {
@@ -187,7 +187,7 @@ impl XotCalls {
         }
     }
 
-    // A Restart of the line, or its confirmation.
+    /// A Restart of the line, or its confirmation.
     fn hear_restart(&mut self, after: LineState)
         ensures { Restarts after self.old self.new }
     {
@@ -197,7 +197,7 @@ impl XotCalls {
         self.state = after;
     }
 
-    // A packet of the line on the channel of a place.
+    /// A packet of the line on the channel of a place.
     fn hear_on(&mut self, content: &Content, octets: &[u8], place: u8)
         ensures { HearsOn place (content_view content.now) octets.now self.old self.new }
     {
@@ -332,7 +332,7 @@ impl XotCalls {
         }
     }
 
-    // The place of a free channel, or the cause why there is none.
+    /// The place of a free channel, or the cause why there is none.
     fn free(&self) -> Result<u8, u8>
         ensures { result ≡ free_in self.now.state self.now.channels.items self.now.connections.items }
     {
@@ -402,7 +402,7 @@ impl XotCalls {
     }
 }
 
-// The first connection that something is to be done with.
+/// The first connection that something is to be done with.
 fn find_wish(connections: &[Connection]) -> Option<usize>
     ensures { result ≡ position has_wish connections.now }
 {
@@ -421,14 +421,14 @@ fn order_for(number: usize, wish: Wish) -> Option<Order>
     }
 }
 
-// No channel owes the line anything.
+/// No channel owes the line anything.
 fn ready_all(channels: &mut Vec<ChannelState>)
     ensures { channels.new.items ≡ replicate (length channels.old.items) ChannelState.Ready }
 {
     channels.as_mut_slice().fill(ChannelState::Ready);
 }
 
-// Each call is cleared with cause 9.
+/// Each call is cleared with cause 9.
 fn restart_all(line: XotLine, connections: &mut Vec<Connection>)
     ensures { AllChange (restarted line) connections.old.items connections.new.items }
 {
@@ -437,7 +437,7 @@ fn restart_all(line: XotLine, connections: &mut Vec<Connection>)
     }
 }
 
-// Ticks pass at each connection.
+/// Ticks pass at each connection.
 fn elapse_all(ticks: u16, connections: &mut Vec<Connection>)
     ensures { AllChange (elapsed ticks) connections.old.items connections.new.items }
 {
@@ -446,7 +446,7 @@ fn elapse_all(ticks: u16, connections: &mut Vec<Connection>)
     }
 }
 
-// So many channels in p1.
+/// So many channels in p1.
 fn new_channels(alloc: Global, count: u8) -> Result<Vec<ChannelState>, AllocError>
     ensures { IfOk result (λ channels. channels.items ≡ replicate count ChannelState.Ready) }
 {
@@ -457,7 +457,7 @@ fn new_channels(alloc: Global, count: u8) -> Result<Vec<ChannelState>, AllocErro
     Ok(channels)
 }
 
-// So many connections, of which none is there.
+/// So many connections, of which none is there.
 fn new_connections(alloc: Global, count: usize) -> Result<Vec<Connection>, AllocError>
     ensures { IfOk result (λ connections. connections.items ≡ replicate count absent) }
 {
@@ -468,7 +468,7 @@ fn new_connections(alloc: Global, count: usize) -> Result<Vec<Connection>, Alloc
     Ok(connections)
 }
 
-// The line after a Restart that came (X.25 3): in r2 it is a confirmation.
+/// The line after a Restart that came (X.25 3): in r2 it is a confirmation.
 fn after_restart(state: LineState) -> LineState
     ensures { result ≡ after_restart state }
 {
@@ -479,7 +479,7 @@ fn after_restart(state: LineState) -> LineState
     }
 }
 
-// The line after a Restart Confirmation that came, which is an error in r1.
+/// The line after a Restart Confirmation that came, which is an error in r1.
 fn after_confirmation(state: LineState) -> LineState
     ensures { result ≡ after_confirmation state }
 {
@@ -490,7 +490,7 @@ fn after_confirmation(state: LineState) -> LineState
     }
 }
 
-// The line after a Restart or its confirmation, if the packet is one.
+/// The line after a Restart or its confirmation, if the packet is one.
 fn state_after(state: LineState, content: &Content) -> Option<LineState>
     ensures { result ≡ state_after state (content_view content.now) }
 {
@@ -501,7 +501,7 @@ fn state_after(state: LineState, content: &Content) -> Option<LineState>
     }
 }
 
-// The place of a channel, if packets of calls are heard: in r1 alone.
+/// The place of a channel, if packets of calls are heard: in r1 alone.
 fn heard_place(state: LineState, channel: u16) -> Option<u8>
     ensures { result ≡ heard_place state channel }
 {
@@ -511,21 +511,21 @@ fn heard_place(state: LineState, channel: u16) -> Option<u8>
     }
 }
 
-// Whether the calls of the line end by this change.
+/// Whether the calls of the line end by this change.
 fn ends_calls(before: LineState, after: LineState) -> bool
     ensures { result ≡ ends_calls before after }
 {
     before != LineState::Restarting && matches!(after, LineState::ToConfirm | LineState::ToRestart)
 }
 
-// The place of a channel, which is counted from 1.
+/// The place of a channel, which is counted from 1.
 fn place_of(channel: u16) -> Option<u8>
     ensures { result ≡ place_of channel }
 {
     u8::try_from(channel.checked_sub(1)?).ok()
 }
 
-// The connection that has a call on the channel of this place.
+/// The connection that has a call on the channel of this place.
 fn find_on(connections: &[Connection], place: u8) -> Option<usize>
     ensures { result ≡ position (is_on place) connections.now }
 {
@@ -542,14 +542,14 @@ fn find_absent(connections: &[Connection]) -> Option<usize>
         .position(|connection| connection.is_absent())
 }
 
-// Whether the channel of the place is in p1, as far as the table of channels says.
+/// Whether the channel of the place is in p1, as far as the table of channels says.
 fn is_ready(channels: &[ChannelState], place: u8) -> bool
     ensures { result ≡ is_ready (slice_get channels.now place) }
 {
     matches!(channels.get(usize::from(place)), Some(ChannelState::Ready))
 }
 
-// The highest free place below one.
+/// The highest free place below one.
 #[tactic(auto, using(crate::proofs::Places::one_below))]
 fn highest_free(channels: &[ChannelState], connections: &[Connection], below: u8) -> Option<u8>
     ensures { result ≡ highest_free channels.now connections.now below }
@@ -567,7 +567,7 @@ fn is_call(content: &Content) -> bool
     matches!(content, Content::CallRequest(_))
 }
 
-// A packet of the line on the channel of a call.
+/// A packet of the line on the channel of a call.
 fn hear_at(
     line: XotLine,
     content: &Content,
@@ -586,7 +586,7 @@ fn hear_at(
     }
 }
 
-// A Call of the line on a free channel.
+/// A Call of the line on a free channel.
 fn begin_call(
     line: XotLine,
     content: &Content,
@@ -608,7 +608,7 @@ fn begin_call(
     }
 }
 
-// A packet of the line on a channel whose call has no connection.
+/// A packet of the line on a channel whose call has no connection.
 fn hear_alone(content: &Content, place: u8, channels: &mut Vec<ChannelState>)
     ensures { channels.new.items ≡ changed_at place (alone_heard (content_view content.now)) channels.old.items }
 {
@@ -631,7 +631,7 @@ fn alone_heard(content: &Content, state: ChannelState) -> ChannelState
     }
 }
 
-// The channel of the place is in this state, if one is given.
+/// The channel of the place is in this state, if one is given.
 fn set_channel(place: u8, leaves: Option<ChannelState>, channels: &mut Vec<ChannelState>)
     ensures { channels.new.items ≡ taken place leaves channels.old.items }
 {
@@ -642,16 +642,16 @@ fn set_channel(place: u8, leaves: Option<ChannelState>, channels: &mut Vec<Chann
     }
 }
 
-// The channel of a call that has lost its connection is in this state.
-fn leave_by(call: CallState, leaves: Option<ChannelState>, channels: &mut Vec<ChannelState>)
+/// The channel of a call that has lost its connection is in this state.
+fn leave_by(call: ConnectionCall, leaves: Option<ChannelState>, channels: &mut Vec<ChannelState>)
     ensures { channels.new.items ≡ left_by call leaves channels.old.items }
 {
-    if let CallState::Call { place, .. } = call {
+    if let ConnectionCall::Call { place, .. } = call {
         set_channel(place, leaves, channels);
     }
 }
 
-// The next packet that a channel owes to the line.
+/// The next packet that a channel owes to the line.
 fn next_of_channels(line: XotLine, channels: &mut Vec<ChannelState>, out: &mut XotPacket) -> bool
     ensures answer { result ≡ is_some (first_owed channels.old.items) }
     ensures channels { channels.new.items ≡ with_paid (first_owed channels.old.items) channels.old.items }
@@ -678,7 +678,7 @@ fn next_of_channels(line: XotLine, channels: &mut Vec<ChannelState>, out: &mut X
     true
 }
 
-// The place of the first channel that owes a packet to the line.
+/// The place of the first channel that owes a packet to the line.
 fn first_owed(channels: &[ChannelState]) -> Option<u8>
     ensures { result ≡ first_owed channels.now }
 {

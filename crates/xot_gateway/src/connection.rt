@@ -49,7 +49,7 @@ ghost use Rattle.xot_gateway.specs.Calls.{has_wish};
 ghost use Rattle.xot_gateway.specs.Packets.{clear_on, confirmation_on, most_packet, over_connection, over_line, read_on};
 ghost use Rattle.xot_gateway.specs.declared.states.Move.TheVariants.{Passes};
 ghost use Rattle.xot_gateway.specs.declared.states.ChannelState.TheVariants.{ToClear};
-ghost use Rattle.xot_gateway.specs.declared.connection.CallState.TheVariants.{Cleared, Confirmed};
+ghost use Rattle.xot_gateway.specs.declared.connection.ConnectionCall.TheVariants.{Cleared, Confirmed};
 
 use crate::line::XotLine;
 use crate::packets::{
@@ -86,7 +86,7 @@ pub(crate) enum Socket {
 
 /// What the call of a connection is in.
 #[derive(Clone, Copy, PartialEq, Eq)]
-pub(crate) enum CallState {
+pub(crate) enum ConnectionCall {
     /// No Call came yet.
     NoCall,
     /// A call on the channel of this place in the table of channels.
@@ -105,7 +105,7 @@ pub(crate) enum CallState {
 #[derive(Drop)]
 pub(crate) struct Connection {
     pub(crate) socket: Socket,
-    pub(crate) call: CallState,
+    pub(crate) call: ConnectionCall,
     /// The ticks that are left to the other side, where it is to act.
     pub(crate) left: Countdown,
     pub(crate) stream: XotStream,
@@ -150,7 +150,7 @@ impl Connection {
     {
         Ok(Connection {
             socket: Socket::Absent,
-            call: CallState::NoCall,
+            call: ConnectionCall::NoCall,
             left: Countdown::new(),
             stream: XotStream::new(alloc)?,
         })
@@ -171,12 +171,12 @@ impl Connection {
         self.left.start(PEER_TICKS);
     }
 
-    // A connection that nothing came over yet.
+    /// A connection that nothing came over yet.
     fn renew(&mut self, socket: Socket)
         ensures { self.new ≡ record absent { socket = socket } }
     {
         self.socket = socket;
-        self.call = CallState::NoCall;
+        self.call = ConnectionCall::NoCall;
         self.left.stop();
         self.stream.clear();
     }
@@ -208,7 +208,7 @@ impl Connection {
         ensures connection { self.new ≡ (heard_on line (content_view content.now) octets.now place self.old).connection }
         ensures leaves { result ≡ (heard_on line (content_view content.now) octets.now place self.old).leaves }
     {
-        let CallState::Call { phase, .. } = self.call else {
+        let ConnectionCall::Call { phase, .. } = self.call else {
             return None;
         };
         match line_move(phase, content) {
@@ -221,7 +221,7 @@ impl Connection {
         }
     }
 
-    // Passes a packet of the line on, after which the call is in the phase.
+    /// Passes a packet of the line on, after which the call is in the phase.
     fn pass(
         &mut self,
         line: XotLine,
@@ -263,22 +263,22 @@ impl Connection {
     fn enter(&mut self, place: u8, phase: Phase)
         ensures { self.new ≡ in_phase self.old place phase }
     {
-        self.call = CallState::Call { place, phase };
+        self.call = ConnectionCall::Call { place, phase };
         match phase {
             Phase::DceClear => self.left.start(PEER_TICKS),
             _ => self.left.stop(),
         }
     }
 
-    // The call has ended, and the other side is to act.
-    fn end_call(&mut self, state: CallState)
+    /// The call has ended, and the other side is to act.
+    fn end_call(&mut self, state: ConnectionCall)
         ensures { self.new ≡ after_call self.old state }
     {
         self.call = state;
         self.left.start(PEER_TICKS);
     }
 
-    // Adds a packet to what is written. Without room for it the connection is broken.
+    /// Adds a packet to what is written. Without room for it the connection is broken.
     fn tell(&mut self, packet: &[u8]) -> bool
         ensures connection { self.new ≡ told self.old packet.now }
         ensures room { result ≡ takes_packet self.old.stream packet.now }
@@ -294,27 +294,27 @@ impl Connection {
     pub(crate) fn break_off(&mut self)
         ensures { self.new ≡ broken self.old }
     {
-        self.call = CallState::Broken;
+        self.call = ConnectionCall::Broken;
         self.left.stop();
     }
 
-    // Confirms a Clear of the other side.
+    /// Confirms a Clear of the other side.
     fn confirm(&mut self, line: XotLine, place: u8)
         ensures { self.new ≡ told (after_call self.old Confirmed) (confirmation_on line place) }
     {
         let mut out = XotPacket::new();
         write_confirmation(line, place, &mut out);
-        self.end_call(CallState::Confirmed);
+        self.end_call(ConnectionCall::Confirmed);
         self.tell(out.as_slice());
     }
 
-    // Clears the call of the other side.
+    /// Clears the call of the other side.
     fn clear(&mut self, line: XotLine, place: u8, cause: u8)
         ensures { self.new ≡ told (after_call self.old Cleared) (clear_on line place cause) }
     {
         let mut out = XotPacket::new();
         write_clear(line, place, cause, &mut out);
-        self.end_call(CallState::Cleared);
+        self.end_call(ConnectionCall::Cleared);
         self.tell(out.as_slice());
     }
 
@@ -346,8 +346,8 @@ impl Connection {
         }
     }
 
-    // Takes a packet of the other side. A Call gets the free channel, or is cleared with the cause. What is to go to the
-    // line is then in `out`.
+    /// Takes a packet of the other side. A Call gets the free channel, or is cleared with the cause. What is to go to the
+    /// line is then in `out`.
     fn serve(
         &mut self,
         line: XotLine,
@@ -364,19 +364,21 @@ impl Connection {
         let prepared = prepare(place_in(free, self.call), packet);
         let octets = prepared.as_slice();
         match self.call {
-            CallState::NoCall => self.serve_first(line, free, octets, out),
-            CallState::Call { place, phase } => self.serve_call(line, place, phase, octets, out),
-            CallState::Cleared => {
+            ConnectionCall::NoCall => self.serve_first(line, free, octets, out),
+            ConnectionCall::Call { place, phase } => self.serve_call(
+                line, place, phase, octets, out,
+            ),
+            ConnectionCall::Cleared => {
                 if is_end(&read_on(line, octets)) {
-                    self.end_call(CallState::Ending);
+                    self.end_call(ConnectionCall::Ending);
                 }
                 QUIET
             }
-            CallState::Confirmed | CallState::Ending | CallState::Broken => QUIET,
+            ConnectionCall::Confirmed | ConnectionCall::Ending | ConnectionCall::Broken => QUIET,
         }
     }
 
-    // The first packet of the connection.
+    /// The first packet of the connection.
     fn serve_first(
         &mut self,
         line: XotLine,
@@ -410,7 +412,7 @@ impl Connection {
         }
     }
 
-    // A packet of the connection in its call.
+    /// A packet of the connection in its call.
     fn serve_call(
         &mut self,
         line: XotLine,
@@ -463,7 +465,7 @@ impl Connection {
             }
             Move::Confirms => {
                 write_confirmation(line, place, out);
-                self.end_call(CallState::Ending);
+                self.end_call(ConnectionCall::Ending);
                 Served {
                     sends: true,
                     leaves: Some(ChannelState::Ready),
@@ -508,7 +510,7 @@ impl Connection {
         matches!(self.socket, Socket::Standing)
             && matches!(
                 self.call,
-                CallState::NoCall | CallState::Call { .. } | CallState::Cleared
+                ConnectionCall::NoCall | ConnectionCall::Call { .. } | ConnectionCall::Cleared
             )
     }
 
@@ -516,7 +518,7 @@ impl Connection {
     pub(crate) fn writes(&self) -> bool
         ensures { result ≡ writes self.now }
     {
-        matches!(self.socket, Socket::Standing) && !matches!(self.call, CallState::Broken)
+        matches!(self.socket, Socket::Standing) && !matches!(self.call, ConnectionCall::Broken)
     }
 
     /// Whether there is none.
@@ -530,7 +532,7 @@ impl Connection {
     pub(crate) fn is_on(&self, place: u8) -> bool
         ensures { result ≡ is_on place self.now }
     {
-        matches!(self.call, CallState::Call { place: own, .. } if own == place)
+        matches!(self.call, ConnectionCall::Call { place: own, .. } if own == place)
     }
 
     /// The first `count` octets that wait were written.
@@ -545,9 +547,9 @@ impl Connection {
         ensures { self.new ≡ restarted line self.old }
     {
         match self.call {
-            CallState::Call { place, phase } => match phase {
+            ConnectionCall::Call { place, phase } => match phase {
                 Phase::DteClear => self.confirm(line, place),
-                Phase::DceClear => self.call = CallState::Cleared,
+                Phase::DceClear => self.call = ConnectionCall::Cleared,
                 _ => self.clear(line, place, OUT_OF_ORDER),
             },
             _ => {}
@@ -566,7 +568,7 @@ impl Connection {
         ensures { result ≡ alone_after self.now.call }
     {
         match self.call {
-            CallState::Call { phase, .. } => Some(phase.alone()),
+            ConnectionCall::Call { phase, .. } => Some(phase.alone()),
             _ => None,
         }
     }
@@ -579,11 +581,11 @@ impl Connection {
         match (self.socket, self.call) {
             (Socket::Absent, _) => Wish::Rests,
             _ if self.left.is_due() => Wish::Closes,
-            (_, CallState::Broken) => Wish::Closes,
-            (Socket::Standing, CallState::Ending) if !self.stream.waiting().is_empty() => {
+            (_, ConnectionCall::Broken) => Wish::Closes,
+            (Socket::Standing, ConnectionCall::Ending) if !self.stream.waiting().is_empty() => {
                 Wish::Rests
             }
-            (_, CallState::Ending) => Wish::Closes,
+            (_, ConnectionCall::Ending) => Wish::Closes,
             (Socket::Wanted, _) => Wish::Connects,
             _ => Wish::Rests,
         }
@@ -619,11 +621,11 @@ impl Connection {
 }
 
 /// The place of the channel of a connection's packet: that of its call, or the free one.
-fn place_in(free: Result<u8, u8>, call: CallState) -> u8
+fn place_in(free: Result<u8, u8>, call: ConnectionCall) -> u8
     ensures { result ≡ place_in free call }
 {
     match (call, free) {
-        (CallState::Call { place, .. }, _) => place,
+        (ConnectionCall::Call { place, .. }, _) => place,
         (_, Ok(place)) => place,
         (_, Err(_)) => 0,
     }

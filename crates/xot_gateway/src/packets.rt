@@ -60,7 +60,7 @@ pub(crate) fn prepare(place: u8, octets: &[u8]) -> XotPacket
     packet
 }
 
-// What is kept of the octets behind the third one.
+/// What is kept of the octets behind the third one.
 fn kept(third: u8, rest: &[u8]) -> &[u8]
     ensures octets { result.now ≡ kept third rest.now }
     ensures fits { length result.now ≤ length rest.now }
@@ -95,7 +95,7 @@ pub(crate) fn accepted_facilities(octets: &[u8]) -> &[u8]
     }
 }
 
-// The octets of two addresses, by their lengths.
+/// The octets of two addresses, by their lengths.
 fn address_octets(lengths: u8) -> usize
     ensures octets { result ≡ address_octets lengths }
     ensures fits { result ≤ 15 }
@@ -103,7 +103,7 @@ fn address_octets(lengths: u8) -> usize
     (usize::from(lengths % 16) + usize::from(lengths / 16) + 1) / 2
 }
 
-// What follows the addresses of these lengths.
+/// What follows the addresses of these lengths.
 fn after_addresses(lengths: u8, rest: &[u8]) -> &[u8]
     ensures { result.now ≡ drop (address_octets lengths) rest.now }
 {
@@ -115,7 +115,7 @@ fn after_addresses(lengths: u8, rest: &[u8]) -> &[u8]
     }
 }
 
-// The field that stands first, behind its length.
+/// The field that stands first, behind its length.
 fn first_field(octets: &[u8]) -> &[u8]
     ensures { result.now ≡ first_field octets.now }
 {
@@ -128,7 +128,7 @@ fn first_field(octets: &[u8]) -> &[u8]
     }
 }
 
-// What follows the field that stands first, behind its length.
+/// What follows the field that stands first, behind its length.
 fn after_field(octets: &[u8]) -> &[u8]
     ensures { result.now ≡ after_field octets.now }
 {
@@ -138,7 +138,7 @@ fn after_field(octets: &[u8]) -> &[u8]
     }
 }
 
-// The first octets of a text, at most so many.
+/// The first octets of a text, at most so many.
 fn front(octets: &[u8], most: usize) -> &[u8]
     ensures octets { result.now ≡ take most octets.now }
     ensures fits { length result.now ≤ most }
@@ -183,7 +183,7 @@ pub(crate) fn write_over_line(content: &Content, octets: &[u8], out: &mut XotPac
     }
 }
 
-// Puts octets in the place of what a packet has.
+/// Puts octets in the place of what a packet has.
 fn replace(octets: &[u8], out: &mut XotPacket)
     requires { length octets.now ≤ MAX_XOT_PACKET }
     ensures { out.new.items ≡ octets.now }
@@ -263,7 +263,7 @@ pub(crate) fn write_restart_confirmation(line: XotLine, out: &mut XotPacket)
     write(&packet, out);
 }
 
-// Writes a packet of the gateway itself.
+/// Writes a packet of the gateway itself.
 fn write(packet: &Packet, out: &mut XotPacket)
     requires { IsPacket MAX_USER_DATA (view packet.now) }
     ensures { out.new.items ≡ spelling (view packet.now) }

@@ -19,7 +19,7 @@ pub(crate) fn shown(numbering: Numbering, number: u8) -> u8
     }
 }
 
-// How far a number that was received is ahead of one that is kept.
+/// How far a number that was received is ahead of one that is kept.
 fn ahead(numbering: Numbering, kept: u8, received: u8) -> u8
     requires kept { kept < 128 }
     requires received { received < modulus numbering }

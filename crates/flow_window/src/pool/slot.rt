@@ -63,7 +63,7 @@ impl Slot {
     }
 }
 
-// In line it takes registers from all that stands around it.
+/// In line it takes registers from all that stands around it.
 #[inline(never)]
 fn write_front(place: &mut [u8], octets: &[u8])
     requires { length octets.now ≤ length place.old }

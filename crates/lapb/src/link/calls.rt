@@ -105,7 +105,7 @@ impl Link {
         self.finish(ran, anew, out, pool);
     }
 
-    // Ends a call after its rule: what becomes of T1, and the buffers of the packets that the rule gave up go back.
+    /// Ends a call after its rule: what becomes of T1, and the buffers of the packets that the rule gave up go back.
     #[inline]
     fn finish(&mut self, ran: bool, anew: bool, out: &mut LinkOut, pool: &mut Pool)
         requires { Holds pool.old self.old.held }
@@ -121,7 +121,7 @@ impl Link {
         self.give_back(pool);
     }
 
-    // The buffers of the packets that a rule gave up go back.
+    /// The buffers of the packets that a rule gave up go back.
     #[inline]
     fn give_back(&mut self, pool: &mut Pool)
         requires { Holds pool.old self.old.held }
@@ -174,7 +174,7 @@ impl Link {
         }
     }
 
-    // An RR command with P = 1.
+    /// An RR command with P = 1.
     fn poll(&mut self, out: &mut LinkOut) -> bool
         requires { self.old.link.polls < self.old.link.n2 }
         ensures link { self.new ≡ record self.old { link = (machine.poll self.old.link).link } }
@@ -219,7 +219,7 @@ impl Link {
         Ok(())
     }
 
-    // Why a packet is not taken, if it is not.
+    /// Why a packet is not taken, if it is not.
     fn room(&self) -> Result<(), OfferFault>
         ensures { MatchOption (refusal self.now.link) (IsOk result) (λ fault. result ≡ Err fault) }
     {
@@ -254,7 +254,7 @@ impl Link {
         }
     }
 
-    // Whether T1 is to run where the link is not up.
+    /// Whether T1 is to run where the link is not up.
     #[cold]
     #[inline(never)]
     fn runs_outside(&self) -> bool

@@ -26,7 +26,7 @@ pub(crate) enum Defect {
 impl Link {
     ghost use Rattle.lapb.specs.LinkView.{IsReport};
 
-    // Takes octets, and says what becomes of T1.
+    /// Takes octets, and says what becomes of T1.
     pub(crate) fn take_octets(&mut self, bytes: &[u8], out: &mut LinkOut)
         ensures link { self.new ≡ record self.old { link = (on_octets self.old.link bytes.now).link } }
         ensures out { out.new ≡ gathered out.old self.old.link (on_octets self.old.link bytes.now) }
@@ -38,7 +38,7 @@ impl Link {
         }
     }
 
-    // Few frames come where the link is not up. What they need stays out of the way of all others.
+    /// Few frames come where the link is not up. What they need stays out of the way of all others.
     #[cold]
     #[inline(never)]
     fn take_outside(&mut self, bytes: &[u8], out: &mut LinkOut)
@@ -59,7 +59,7 @@ impl Link {
         }
     }
 
-    // After an I frame T1 runs only if it ran before or starts again. So it is not asked whether it ran.
+    /// After an I frame T1 runs only if it ran before or starts again. So it is not asked whether it ran.
     #[inline(always)]
     fn end_frame(&mut self, frame: &Frame<'_>, out: &mut LinkOut)
         requires { HasNumbers (content_of frame.now.kind) }
@@ -133,7 +133,7 @@ impl Link {
         }
     }
 
-    // The address octet of the responses that this end receives.
+    /// The address octet of the responses that this end receives.
     fn response_address(&self) -> u8
         ensures { result ≡ address_of (other_of self.now.link.role) true }
     {
@@ -143,7 +143,7 @@ impl Link {
         }
     }
 
-    // A frame whose control octet or information field cannot be taken.
+    /// A frame whose control octet or information field cannot be taken.
     fn take_defect(
         &mut self,
         defect: Defect,

@@ -15,7 +15,7 @@ use frame_codec::{Frame, FrameKind};
 use link_timers::Role;
 
 impl Link {
-    // Takes N(R), where it lies from V(A) to V(M): how many packets it newly acknowledges.
+    /// Takes N(R), where it lies from V(A) to V(M): how many packets it newly acknowledges.
     fn acknowledge(&mut self, nr: u8) -> Option<u8>
         requires { nr < 8 }
         ensures { MatchOption result
@@ -33,7 +33,7 @@ impl Link {
         }
     }
 
-    // RR, RNR and REJ, where N(R) was taken.
+    /// RR, RNR and REJ, where N(R) was taken.
     fn on_supervisory(
         &mut self,
         busy: bool,
@@ -66,7 +66,7 @@ impl Link {
         self.answer(polls, out);
     }
 
-    // RR as a response with F = 1, if it is due.
+    /// RR as a response with F = 1, if it is due.
     fn answer(&self, due: bool, out: &mut LinkOut)
         ensures { out.new ≡ answered out.old self.now.link.role due self.now.link.expected }
     {
@@ -76,7 +76,7 @@ impl Link {
         out.tell(Note::Nothing);
     }
 
-    // RR as a response with F = 1.
+    /// RR as a response with F = 1.
     #[cold]
     #[inline(never)]
     fn put_ready(&self, out: &mut LinkOut)
@@ -89,7 +89,7 @@ impl Link {
         self.put(&response(FrameKind::Rr { nr }, true), out);
     }
 
-    // An I frame in sequence is accepted.
+    /// An I frame in sequence is accepted.
     fn accept(&mut self, pf: bool, out: &mut LinkOut)
         ensures link { (packet : machine.Octets) → self.new ≡ record self.old {
           link = (machine.accept self.old.link pf packet).link;
@@ -105,7 +105,7 @@ impl Link {
         out.accept();
     }
 
-    // An I frame out of sequence is discarded, and the first such one answered by REJ.
+    /// An I frame out of sequence is discarded, and the first such one answered by REJ.
     #[cold]
     #[inline(never)]
     fn discard(&mut self, pf: bool, out: &mut LinkOut)
@@ -123,7 +123,7 @@ impl Link {
         }
     }
 
-    // An I frame whose N(R) was taken.
+    /// An I frame whose N(R) was taken.
     fn on_information(&mut self, ns: u8, pf: bool, out: &mut LinkOut)
         ensures link { (packet : machine.Octets) → self.new ≡ record self.old {
           link = (machine.on_information self.old.link ns pf packet).link;
@@ -138,7 +138,7 @@ impl Link {
         }
     }
 
-    // N(R) of no number from V(A) to V(M).
+    /// N(R) of no number from V(A) to V(M).
     #[cold]
     #[inline(never)]
     fn reject_number(&mut self, control: u8, is_response: bool, pf: bool, out: &mut LinkOut) -> bool
@@ -185,7 +185,7 @@ impl Link {
         newly > 0
     }
 
-    // RR, RNR or REJ, by the low half of its control octet.
+    /// RR, RNR or REJ, by the low half of its control octet.
     #[inline(always)]
     fn take_supervisory(
         &mut self,
@@ -271,7 +271,7 @@ const REJECT: Supervisory = Supervisory {
     back: true,
 };
 
-// The control octet of a frame that carries N(R).
+/// The control octet of a frame that carries N(R).
 fn control_octet(nr: u8, pf: bool, low: u8) -> u8
     requires nr { nr < 8 }
     requires low { low < 16 }

@@ -14,7 +14,7 @@ use frame_codec::{Frame, FrameKind};
 use link_timers::Role;
 
 impl Link {
-    // A frame that could be read. A DCE takes a SABM in any phase.
+    /// A frame that could be read. A DCE takes a SABM in any phase.
     #[inline(always)]
     pub(crate) fn take_frame(&mut self, frame: &Frame<'_>, out: &mut LinkOut) -> bool
         requires { HasNumbers (content_of frame.now.kind) }
@@ -61,7 +61,7 @@ impl Link {
         }
     }
 
-    // DISC and a command with P = 1 are answered by DM; DM or SABM begins an act at a DTE.
+    /// DISC and a command with P = 1 are answered by DM; DM or SABM begins an act at a DTE.
     fn in_down(&mut self, frame: &Frame<'_>, out: &mut LinkOut) -> bool
         ensures link { self.new ≡ record self.old {
           link = (machine.in_down self.old.link.role self.old.link (content_of frame.now.kind)
@@ -122,7 +122,7 @@ impl Link {
         }
     }
 
-    // A DCE that sent FRMR sends it again at each command.
+    /// A DCE that sent FRMR sends it again at each command.
     fn in_rejecting(&mut self, frame: &Frame<'_>, out: &mut LinkOut) -> bool
         ensures link { self.new ≡ record self.old {
           link = (machine.in_rejecting self.old.link (content_of frame.now.kind) frame.now.response
@@ -152,7 +152,7 @@ impl Link {
         }
     }
 
-    // The Frame Reject that was sent last, again.
+    /// The Frame Reject that was sent last, again.
     pub(crate) fn sends_report(&self, pf: bool, out: &mut LinkOut) -> bool
         ensures out { out.new ≡ with_step out.old self.now.link.role (machine.sends self.now.link
             (machine.response (spec.Frmr self.now.link.report) pf)) }

@@ -42,7 +42,7 @@ impl Link {
         }
     }
 
-    // T1 goes on as it is.
+    /// T1 goes on as it is.
     #[cold]
     #[inline(never)]
     fn stay(&self, out: &mut LinkOut)
@@ -74,7 +74,7 @@ impl Link {
         }
     }
 
-    // The packets take more registers than all else, so they are sent apart. T1 runs then.
+    /// The packets take more registers than all else, so they are sent apart. T1 runs then.
     #[inline(never)]
     fn end_by_packets(&mut self, out: &mut LinkOut, pool: &Pool)
         requires up { self.old.link.phase ≡ Phase.Up }
@@ -105,7 +105,7 @@ impl Link {
         out.end(runs, runs);
     }
 
-    // RR, if an acknowledgement is owed.
+    /// RR, if an acknowledgement is owed.
     fn send_acknowledgement(&mut self, out: &mut LinkOut)
         ensures link { self.new ≡ record self.old { link = (machine.send_all self.old.link []).link } }
         ensures out { out.new ≡ record out.old {
@@ -121,7 +121,7 @@ impl Link {
         out.put(self.role, &response(FrameKind::Rr { nr }, false));
     }
 
-    // The packets from V(S) on, in I frames.
+    /// The packets from V(S) on, in I frames.
     fn send_packets(&mut self, out: &mut LinkOut, pool: &Pool)
         requires holds { Holds pool.now self.old.held }
         requires size { pool.now.size ≤ most_information }

@@ -32,7 +32,7 @@ impl Link {
         self.repeats = false;
     }
 
-    // One frame is sent. Few of the calls send one, so its writing stays out of their way.
+    /// One frame is sent. Few of the calls send one, so its writing stays out of their way.
     #[inline(never)]
     pub(crate) fn put(&self, frame: &Frame<'_>, out: &mut LinkOut)
         requires { HasSpelling most_information (value_of frame.now) }
@@ -43,7 +43,7 @@ impl Link {
         out.put(self.role, frame);
     }
 
-    // Nothing happens.
+    /// Nothing happens.
     pub(crate) fn still(&self, out: &mut LinkOut) -> bool
         ensures out { out.new ≡ with_step out.old self.now.link.role (machine.still self.now.link) }
         ensures anew { result ≡ (machine.still self.now.link).anew }
@@ -52,7 +52,7 @@ impl Link {
         false
     }
 
-    // One frame is sent, and nothing else happens.
+    /// One frame is sent, and nothing else happens.
     pub(crate) fn sends(&self, frame: &Frame<'_>, out: &mut LinkOut) -> bool
         requires { HasSpelling most_information (value_of frame.now) }
         ensures out { out.new ≡ with_step out.old self.now.link.role
@@ -64,7 +64,7 @@ impl Link {
         false
     }
 
-    // A set-up act of a DTE; the SABMs of an act carry one P, those of the next the other.
+    /// A set-up act of a DTE; the SABMs of an act carry one P, those of the next the other.
     #[cold]
     #[inline(never)]
     pub(crate) fn set_up(&mut self, out: &mut LinkOut) -> bool
@@ -79,7 +79,7 @@ impl Link {
         true
     }
 
-    // A DCE asks to be set up.
+    /// A DCE asks to be set up.
     #[cold]
     #[inline(never)]
     pub(crate) fn disconnect(&mut self, out: &mut LinkOut) -> bool
@@ -106,7 +106,7 @@ impl Link {
         }
     }
 
-    // A DCE takes a SABM; it sends no I frame before it hears the DTE.
+    /// A DCE takes a SABM; it sends no I frame before it hears the DTE.
     #[cold]
     #[inline(never)]
     pub(crate) fn take_sabm(&mut self, pf: bool, out: &mut LinkOut) -> bool
@@ -120,7 +120,7 @@ impl Link {
         false
     }
 
-    // A DTE takes the UA of its act, and polls.
+    /// A DTE takes the UA of its act, and polls.
     #[cold]
     #[inline(never)]
     pub(crate) fn come_up(&mut self, out: &mut LinkOut) -> bool
@@ -137,7 +137,7 @@ impl Link {
         true
     }
 
-    // DISC is answered by UA.
+    /// DISC is answered by UA.
     #[cold]
     #[inline(never)]
     pub(crate) fn take_disc(&mut self, pf: bool, out: &mut LinkOut) -> bool
@@ -151,7 +151,7 @@ impl Link {
         false
     }
 
-    // A frame cannot be taken: a DTE sets the link up again, a DCE reports the frame by FRMR.
+    /// A frame cannot be taken: a DTE sets the link up again, a DCE reports the frame by FRMR.
     #[cold]
     #[inline(never)]
     pub(crate) fn reject(&mut self, report: Rejection, pf: bool, out: &mut LinkOut) -> bool
@@ -176,7 +176,7 @@ impl Link {
         }
     }
 
-    // What a Frame Reject is to tell of a frame.
+    /// What a Frame Reject is to tell of a frame.
     pub(crate) fn report_on(&self, control: u8, response: bool, reason: Reason) -> Rejection
         ensures value { report_of result ≡ machine.report_of self.now.link control response reason.w reason.x reason.y
             reason.z }
@@ -204,7 +204,7 @@ pub(crate) struct Reason {
     pub(crate) z: bool,
 }
 
-// What the packet layer is told where the link leaves this phase for none of a session.
+/// What the packet layer is told where the link leaves this phase for none of a session.
 fn left(phase: Phase) -> Note
     ensures { result ≡ machine.left phase }
 {

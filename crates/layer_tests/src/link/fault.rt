@@ -4,19 +4,19 @@ use std::alloc::AllocError;
 
 /// Why a link or the end of a line was not made.
 #[derive(Clone, Copy)]
-pub enum MakeFault {
+pub enum LinkFault {
     BadParams,
     OutOfMemory,
 }
 
-impl From<BadParams> for MakeFault {
+impl From<BadParams> for LinkFault {
     fn from(_: BadParams) -> Self {
-        MakeFault::BadParams
+        LinkFault::BadParams
     }
 }
 
-impl From<AllocError> for MakeFault {
+impl From<AllocError> for LinkFault {
     fn from(_: AllocError) -> Self {
-        MakeFault::OutOfMemory
+        LinkFault::OutOfMemory
     }
 }

@@ -85,14 +85,14 @@ fn frames_are_read_and_written(rt: HostRuntime) {
     }
 }
 
-// Whether a row's octets are read as its frame, and are written back.
+/// Whether a row's octets are read as its frame, and are written back.
 fn fits(row: &Row) -> bool {
     let (octets, at, kind, response, pf) = *row;
     let frame = Frame { kind, response, pf };
     read_frame(octets, at, SHORT) == Ok(frame) && is_written_back(octets, at)
 }
 
-// Whether the frame that the octets spell is written with the same octets.
+/// Whether the frame that the octets spell is written with the same octets.
 #[tactic(auto, using(frame_codec::proofs::Grammar::form_spelt))]
 fn is_written_back(octets: &[u8], at: Role) -> bool {
     match read_frame(octets, at, LONG) {

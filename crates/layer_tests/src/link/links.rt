@@ -1,5 +1,5 @@
 //! Two links by the octets of their frames.
-use crate::link::fault::MakeFault;
+use crate::link::fault::LinkFault;
 use crate::link::frames::{LONGEST, TOO_LONG};
 use crate::link::station::Station;
 use lapb::{Link, LinkOut, LinkParams, Note, OfferFault, Phase, Timing};
@@ -43,7 +43,7 @@ enum Turn<'a> {
 use Act::{Accept, Expire, In, Offer, Relink, Rests, Settle, Start, Take};
 use Turn::{Cross, Dce, Dte};
 
-fn link(alloc: Global, role: Role) -> Result<Station, MakeFault> {
+fn link(alloc: Global, role: Role) -> Result<Station, LinkFault> {
     let params = LinkParams {
         k: 7,
         n2: 3,
@@ -56,7 +56,7 @@ fn link(alloc: Global, role: Role) -> Result<Station, MakeFault> {
 // A rule, and turns by which it is seen at two links.
 type Example<'a> = (&'a str, &'a [Turn<'a>]);
 
-// Plays each example at two new links, after turns that are the same for all.
+/// Plays each example at two new links, after turns that are the same for all.
 fn play(rt: &impl Abort, alloc: Global, begins: &[Turn<'_>], examples: &[Example<'_>]) {
     for (rule, turns) in examples {
         assert!(rt; holds(alloc, begins, turns), "{rule}");
@@ -102,7 +102,7 @@ fn fits(link: &mut Station, act: Act<'_>) -> bool {
     }
 }
 
-// Whether what an act gives is what must come of it.
+/// Whether what an act gives is what must come of it.
 fn gives(link: &mut Station, out: &mut LinkOut, act: Act<'_>) -> bool {
     match act {
         Start(frames) => {
@@ -130,7 +130,7 @@ fn gives(link: &mut Station, out: &mut LinkOut, act: Act<'_>) -> bool {
     }
 }
 
-// Whether the packet of a frame is accepted. The event ends.
+/// Whether the packet of a frame is accepted. The event ends.
 fn accepts(link: &mut Station, out: &mut LinkOut, octets: &[u8]) -> bool {
     link.on_frame(octets, out);
     let accepted = out.accepted();
@@ -138,12 +138,12 @@ fn accepts(link: &mut Station, out: &mut LinkOut, octets: &[u8]) -> bool {
     accepted
 }
 
-// Whether this note is given, T1 starts, and these frames and no others are to be sent.
+/// Whether this note is given, T1 starts, and these frames and no others are to be sent.
 fn is_begun(out: &mut LinkOut, note: Note, frames: Frames<'_>) -> bool {
     out.note() == note && out.take_timer() == Timing::Start && are_sent(out, frames)
 }
 
-// Whether these frames and no others are to be sent. They are taken away.
+/// Whether these frames and no others are to be sent. They are taken away.
 fn are_sent(out: &mut LinkOut, expected: Frames<'_>) -> bool {
     let mut same = true;
     for octets in expected {
@@ -152,7 +152,7 @@ fn are_sent(out: &mut LinkOut, expected: Frames<'_>) -> bool {
     same && out.frames().is_empty()
 }
 
-// Whether the first frame has these octets. It is taken away.
+/// Whether the first frame has these octets. It is taken away.
 fn is_sent(out: &mut LinkOut, octets: &[u8]) -> bool {
     let same = match out.frames().first() {
         Some(frame) => frame.as_slice() == octets,
@@ -343,7 +343,7 @@ fn fields() -> &'static [Example<'static>] {
     FIELDS
 }
 
-// The turns by which both ends come up.
+/// The turns by which both ends come up.
 fn set_up() -> &'static [Turn<'static>] {
     SET_UP
 }
@@ -360,8 +360,8 @@ fn links_carry_packets_and_report_faults(rt: HostRuntime) {
     play(&rt, rt.alloc(), set_up(), fields());
 }
 
-// Takes all frames of one end at the other, and the end of the event there. The packet that is expected next there is
-// one octet, `next`; gives the one after those that came, or 99 where another came.
+/// Takes all frames of one end at the other, and the end of the event there. The packet that is expected next there is
+/// one octet, `next`; gives the one after those that came, or 99 where another came.
 fn take_all(to: &mut Station, from: &mut LinkOut, out: &mut LinkOut, next: u8) -> u8 {
     let mut next = next;
     for frame in from.frames() {
@@ -378,7 +378,7 @@ fn take_all(to: &mut Station, from: &mut LinkOut, out: &mut LinkOut, next: u8) -
     next
 }
 
-// Offers packets of one octet, from `next` to 7, as room allows: the next one.
+/// Offers packets of one octet, from `next` to 7, as room allows: the next one.
 fn offer_all(link: &mut Station, next: u8) -> u8 {
     for number in next..8 {
         if link.offer(&[number]).is_err() {
@@ -388,7 +388,7 @@ fn offer_all(link: &mut Station, next: u8) -> u8 {
     8
 }
 
-// Offers eight packets at each end as room allows: how many arrived in order, and no other, at each.
+/// Offers eight packets at each end as room allows: how many arrived in order, and no other, at each.
 fn cross(dte: &mut Station, dce: &mut Station) -> (u8, u8) {
     let mut up = LinkOut::new();
     let mut down = LinkOut::new();

@@ -1,7 +1,7 @@
 //! A link with a pool of its own, as a station of the tests.
 ghost use Rattle.std.specs.Prelude.{◌≡◌, ◌≤◌, length};
 
-use crate::link::fault::MakeFault;
+use crate::link::fault::LinkFault;
 use flow_window::pool::Pool;
 use lapb::{Link, LinkOut, LinkParams, OfferFault, Phase};
 use link_timers::Role;
@@ -28,7 +28,7 @@ impl Model for Station {
 }
 
 impl Station {
-    pub(crate) fn new(alloc: Global, role: Role, params: LinkParams) -> Result<Self, MakeFault>
+    pub(crate) fn new(alloc: Global, role: Role, params: LinkParams) -> Result<Self, LinkFault>
         requires { params.info ≡ 145 }
     {
         Ok(Station {

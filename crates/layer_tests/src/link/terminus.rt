@@ -1,7 +1,7 @@
 //! The end of a line with a pool of its own, for tests.
 ghost use Rattle.std.specs.Prelude.{◌≡◌, ◌≤◌, length};
 
-use crate::link::fault::MakeFault;
+use crate::link::fault::LinkFault;
 use flow_window::pool::Pool;
 use frame_codec::FrameBuf;
 use lapb::{LinkParams, OfferFault};
@@ -31,7 +31,7 @@ impl Model for Terminus {
 
 impl Terminus {
     /// The end of this role of a line, with a pool of k + 1 buffers.
-    pub fn new(alloc: Global, role: Role, params: LinkParams) -> Result<Self, MakeFault>
+    pub fn new(alloc: Global, role: Role, params: LinkParams) -> Result<Self, LinkFault>
         requires { params.info ≡ 145 }
     {
         params.check()?;

@@ -8,14 +8,14 @@ fn started() -> Timers {
     timers
 }
 
-// Whether two ticks make timer 13 of channel 4 due, and it fires once.
+/// Whether two ticks make timer 13 of channel 4 due, and it fires once.
 fn fires_once(timers: &mut Timers) -> bool {
     timers.tick(2).as_slice() == [TimerId::T13(4)].as_slice()
         && timers.fire(TimerId::T13(4))
         && !timers.fire(TimerId::T13(4))
 }
 
-// Whether timer 1 is due after one tick more, and is not once it is stopped.
+/// Whether timer 1 is due after one tick more, and is not once it is stopped.
 fn is_stopped(timers: &mut Timers) -> bool {
     let due = timers.tick(1).as_slice() == [TimerId::T1].as_slice()
         && timers.is_running(TimerId::T1);

@@ -85,7 +85,7 @@ fn windows_number_and_acknowledge(rt: HostRuntime) {
     assert!(rt; fit(&mut SendWindow::<Mod128>::new(3), MODULO_128));
 }
 
-// Whether a window that receives takes the expected number alone, and expects 0 once it is cleared.
+/// Whether a window that receives takes the expected number alone, and expects 0 once it is cleared.
 fn takes_the_expected(window: &mut RecvWindow<Mod8>) -> bool {
     let taken = window.offer(0) == Offer::InOrder && window.offer(2) == Offer::OutOfOrder;
     let next = window.expected();

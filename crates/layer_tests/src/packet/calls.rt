@@ -41,7 +41,7 @@ fn steps_are_those_of_the_table(rt: HostRuntime) {
     }
 }
 
-// Where two calls meet the DCE may accept, and the DTE may not.
+/// Where two calls meet the DCE may accept, and the DTE may not.
 #[test]
 fn a_dce_accepts_where_calls_meet(rt: HostRuntime) {
     assert!(rt; CallState::CallCollision.allows(Role::Dce, UserAct::Accept));

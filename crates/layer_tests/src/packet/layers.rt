@@ -2,10 +2,10 @@
 use crate::packet::station::Station;
 use link_timers::{Role, TimerId};
 use packet_codec::{Numbering, PacketBuf};
-use packet_layer::{Flow, LayerParams, MakeFault, Taken};
+use packet_layer::{Flow, LayerFault, LayerParams, Taken};
 use std::alloc::Global;
 
-fn station(alloc: Global, window: u8) -> Result<Station, MakeFault> {
+fn station(alloc: Global, window: u8) -> Result<Station, LayerFault> {
     let params = LayerParams {
         channels: 4,
         flow: Flow {
@@ -18,13 +18,13 @@ fn station(alloc: Global, window: u8) -> Result<Station, MakeFault> {
     Station::new(alloc, Role::Dce, params)
 }
 
-// Whether these octets go to the link next.
+/// Whether these octets go to the link next.
 fn says(station: &mut Station, octets: &[u8]) -> bool {
     let mut buf = PacketBuf::new();
     station.next_packet(&mut buf) && buf.as_slice() == octets
 }
 
-// Whether a packet or an interrupt of these octets is taken.
+/// Whether a packet or an interrupt of these octets is taken.
 fn takes(station: &mut Station, octets: &[u8]) -> bool {
     match station.take(1) {
         Some(Taken::Data(data)) => data.octets() == octets,
@@ -33,7 +33,7 @@ fn takes(station: &mut Station, octets: &[u8]) -> bool {
     }
 }
 
-// A call comes in on channel 4, is accepted and is cleared.
+/// A call comes in on channel 4, is accepted and is cleared.
 fn has_calls(station: &mut Station) -> bool {
     station.on_packet(&[0x10, 0x04, 0x0b, 0x04, 0x20, 0x01, 0x00]);
     station.accept(4).is_ok()
@@ -42,7 +42,7 @@ fn has_calls(station: &mut Station) -> bool {
         && says(station, &[0x10, 0x04, 0x13, 0x00, 0x00])
 }
 
-// A packet and an interrupt come, are taken, and are acknowledged and confirmed.
+/// A packet and an interrupt come, are taken, and are acknowledged and confirmed.
 fn hears(station: &mut Station) -> bool {
     station.on_packet(b"\x10\x01\x00X");
     let taken = takes(station, b"X");
@@ -54,7 +54,7 @@ fn hears(station: &mut Station) -> bool {
     taken && acknowledged && interrupted && says(station, &[0x10, 0x01, 0x27])
 }
 
-// A packet with D = 1 and an interrupt go.
+/// A packet with D = 1 and an interrupt go.
 fn sends(station: &mut Station) -> bool {
     station.send(1, b"HI", true).is_ok()
         && says(station, b"\x50\x01\x20HI")
@@ -62,7 +62,7 @@ fn sends(station: &mut Station) -> bool {
         && says(station, &[0x10, 0x01, 0x23, 0x01])
 }
 
-// The partner is stopped and goes on, and the call is reset.
+/// The partner is stopped and goes on, and the call is reset.
 fn asks(station: &mut Station) -> bool {
     station.stop(1).is_ok()
         && says(station, &[0x10, 0x01, 0x25])
@@ -92,5 +92,5 @@ fn layers_carry_calls(rt: HostRuntime) {
 
 #[test]
 fn windows_have_a_packet(rt: HostRuntime) {
-    assert!(rt; station(rt.alloc(), 0).err() == Some(MakeFault::BadParams));
+    assert!(rt; station(rt.alloc(), 0).err() == Some(LayerFault::BadParams));
 }

@@ -5,7 +5,7 @@ use packet_codec::{
     logical_channel, read_packet, write_packet,
 };
 
-// How the third octet and those behind it number packets: bits 6 and 5 of the first octet say it.
+/// How the third octet and those behind it number packets: bits 6 and 5 of the first octet say it.
 fn numbering_of(octets: &[u8]) -> Numbering {
     match octets.first() {
         Some(first) if *first & 0x30 == 0x20 => Numbering::Modulo128,
@@ -50,7 +50,7 @@ fn is_written(octets: &[u8], written: &[u8]) -> bool {
     }
 }
 
-// Whether octets are a packet that is written as these.
+/// Whether octets are a packet that is written as these.
 fn is_written_as(octets: &[u8], written: &[u8]) -> bool {
     match read_packet(octets, numbering_of(octets), 128) {
         Ok(packet) => {
@@ -69,7 +69,7 @@ fn packets_are_read_and_written(rt: HostRuntime) {
     }
 }
 
-// Whether octets are one Data packet of the user data `HI`, with these numbers, M = 1, Q = 1 and D = 0.
+/// Whether octets are one Data packet of the user data `HI`, with these numbers, M = 1, Q = 1 and D = 0.
 fn is_data(octets: &[u8], send: u8, receive: u8) -> bool {
     match read_packet(octets, numbering_of(octets), 128) {
         Ok(packet) => match packet.content {
@@ -143,7 +143,7 @@ const CALL: &[u8] = &[
 
 const FACILITY: &[u8] = &[0x10, 0x04, 0x0b, 0x04, 0x20, 0x01, 0x02, 0x01, 0x01];
 
-// Whether octets are a Call to 2001 that tells this, also where it is kept in a buffer.
+/// Whether octets are a Call to 2001 that tells this, also where it is kept in a buffer.
 fn is_call(octets: &[u8], calling: &[u8], facilities: &[u8], user_data: &[u8]) -> bool {
     let Ok(packet) = read_packet(octets, Numbering::Modulo8, 128) else {
         return false;
@@ -195,7 +195,7 @@ fn addresses_have_digits(rt: HostRuntime) {
     assert!(rt; is_refused(b"12A", AddressFault::NotADigit));
 }
 
-// Whether octets are RR on channel 1.
+/// Whether octets are RR on channel 1.
 fn is_ready(octets: &[u8]) -> bool {
     match read_packet(octets, Numbering::Modulo8, 128) {
         Ok(packet) => matches!(packet.content, Content::ReceiveReady(_)) && packet.channel == 1,

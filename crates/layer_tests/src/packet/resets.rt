@@ -6,7 +6,7 @@ use reset_restart::{
     ResetEvent, ResetNote, ResetState, ResetStep, RestartNote, RestartState, RestartStep,
 };
 
-// A Reset Confirmation of no reset, at a DCE.
+/// A Reset Confirmation of no reset, at a DCE.
 #[test]
 fn resets(rt: HostRuntime) {
     const STEP: ResetStep = ResetStep {
@@ -20,7 +20,7 @@ fn resets(rt: HostRuntime) {
     assert!(rt; ResetState::own(Role::Dce) == ResetState::DceReset);
 }
 
-// A Restart Confirmation of no restart, at a DCE.
+/// A Restart Confirmation of no restart, at a DCE.
 #[test]
 fn restarts(rt: HostRuntime) {
     const STEP: RestartStep = RestartStep {

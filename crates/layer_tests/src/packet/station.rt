@@ -2,7 +2,7 @@
 use flow_window::pool::Pool;
 use link_timers::Role;
 use packet_codec::{MAX_USER_DATA, PacketBuf};
-use packet_layer::{ChannelFault, Layer, LayerParams, MakeFault, SEND_QUEUE, Taken};
+use packet_layer::{ChannelFault, Layer, LayerFault, LayerParams, SEND_QUEUE, Taken};
 use std::alloc::Global;
 use std::marker::Model;
 
@@ -25,7 +25,7 @@ impl Model for Station {
 }
 
 impl Station {
-    pub(crate) fn new(alloc: Global, role: Role, params: LayerParams) -> Result<Self, MakeFault> {
+    pub(crate) fn new(alloc: Global, role: Role, params: LayerParams) -> Result<Self, LayerFault> {
         let layer = Layer::new(alloc, role, params)?;
         let LayerParams { channels, flow, .. } = params;
         let buffers = usize::from(channels) * (usize::from(flow.window) + SEND_QUEUE) + 1;

@@ -6,7 +6,7 @@ use x3_params::{Params, Profile};
 // Parameters, each by its number and its value.
 type Changes<'a> = &'a [(u8, u8)];
 
-// The parameters of the profile TRANSPARENT with these in their place, where all take their values.
+/// The parameters of the profile TRANSPARENT with these in their place, where all take their values.
 fn params_with(changes: Changes<'_>) -> Params {
     let mut params = Params::profile(Profile::Transparent, 14);
     for (number, value) in changes {
@@ -43,14 +43,14 @@ fn keys() -> &'static [Key] {
     KEYS
 }
 
-// Whether a key has this echo and this block.
+/// Whether a key has this echo and this block.
 fn types(editor: &mut Editor, params: &Params, key: &Key) -> bool {
     let (octet, echo, block) = *key;
     let out = editor.key(octet, params);
     out.echo.as_slice() == echo && is_block(&out.block, block)
 }
 
-// Whether a block has these octets, or there is none.
+/// Whether a block has these octets, or there is none.
 fn is_block(block: &Option<Block>, octets: &[u8]) -> bool {
     match block {
         Some(block) => block.as_slice() == octets,
@@ -67,7 +67,7 @@ fn a_text_is_edited_and_echoed(rt: HostRuntime) {
     }
 }
 
-// Whether octets, as output or as an echo, are laid out from column 0 as this text, with this column behind it.
+/// Whether octets, as output or as an echo, are laid out from column 0 as this text, with this column behind it.
 fn is_laid_out(with: Changes<'_>, octets: &[u8], echo: bool, text: &[u8], column: u16) -> bool {
     let mut out = ArrayVec::<u8, 85>::new();
     octets.len() <= 5

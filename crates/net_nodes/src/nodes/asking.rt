@@ -4,17 +4,17 @@ ghost use Rattle.std.specs.Result.{result_and};
 ghost use Rattle.call_records.specs.Register.{HasNoRecords};
 ghost use Rattle.net_events.specs.declared.event.Event.TheVariants as event_is;
 ghost use Rattle.net_events.specs.declared.event.StepFault.TheVariants.{OutOfMemory};
-ghost use Rattle.net_turns.specs.AnswerRoom.{IsRoomy};
+ghost use Rattle.node_events.specs.AnswerRoom.{IsRoomy};
 ghost use Rattle.net_nodes.specs.Places.{IsStanding};
 ghost use Rattle.net_nodes.specs.Happening.{Happens};
 
 use crate::nodes::Nodes;
 use arrayvec::ArrayVec;
 use frame_lines::Line;
-use line_nodes::TerminalEvent;
 use net_events::{Answer, HostEvent, StepFault, UserEvent};
 use packet_codec::Address;
 use packet_host::HostRequest;
+use user_nodes::TerminalEvent;
 
 impl<L: Line> Nodes<L> {
     /// Something happens at a terminal of a PAD.

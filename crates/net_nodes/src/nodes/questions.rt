@@ -9,14 +9,14 @@ ghost use Rattle.net_nodes.specs.Due.{net_due, net_due_at};
 ghost use Rattle.net_nodes.specs.Happening.{FindsNoFrame, FindNoFrames};
 ghost use Rattle.net_nodes.specs.Questions.{net_confirmed, net_has_to_take, net_room_to_say, net_rests, is_empty};
 ghost use Rattle.net_nodes.specs.Questions.{net_shows, user_channel};
-ghost use Rattle.placed_nodes.specs.Node.{rests, user_of};
+ghost use Rattle.net_node.specs.Node.{rests, user_of};
 
 use crate::nodes::Nodes;
 use call_records::{Pair, Record};
 use frame_lines::{Direction, Line};
 use net_events::Event;
-use net_turns::NetLine;
-use placed_nodes::{NetNode, first_node_due};
+use net_node::{NetNode, first_node_due};
+use node_events::NetLine;
 
 /// Whether no frame is in flight on a line.
 fn is_empty<L: Line>(net_line: &NetLine<L>) -> bool

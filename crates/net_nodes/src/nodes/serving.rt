@@ -5,7 +5,7 @@ ghost use Rattle.switch_laws.specs.Turn.{AreOctets};
 ghost use Rattle.call_records.specs.Register.{HasNoRecords};
 ghost use Rattle.net_events.specs.declared.event.Event.TheVariants as event_is;
 ghost use Rattle.net_events.specs.declared.event.StepFault.TheVariants.{OutOfMemory};
-ghost use Rattle.net_turns.specs.AnswerRoom.{IsRoomy};
+ghost use Rattle.node_events.specs.AnswerRoom.{IsRoomy};
 ghost use Rattle.net_events.specs.AtSwitch.{Hears};
 ghost use Rattle.net_events.specs.EventView.{switch_event_of};
 ghost use Rattle.net_nodes.specs.Places.{IsStanding, HearsAt, IsOwnLine, is_switch_at};
@@ -18,7 +18,7 @@ use frame_codec::FrameBuf;
 use frame_lines::{Direction, Line};
 use link_timers::{Role, TimerId};
 use net_events::{Answer, LineEvent, Outcome, StepFault, SwitchEvent};
-use net_turns::{MOST_WRITES, make_bare, make_room};
+use node_events::{MOST_WRITES, make_bare, make_room};
 
 /// The end that hears what is sent in a direction.
 fn hearer(direction: Direction) -> Role

@@ -4,8 +4,8 @@ ghost use Rattle.call_records.specs.RegisterView.{register_of};
 ghost use Rattle.net_events.specs.EventView.{switch_event_of};
 ghost use Rattle.net_events.specs.Network as network;
 ghost use Rattle.net_events.specs.declared.event.StepFault.TheVariants.{OutOfMemory};
-ghost use Rattle.net_turns.specs.AnswerRoom.{IsRoomy};
-ghost use Rattle.net_turns.specs.Switching.{HasRoom};
+ghost use Rattle.node_events.specs.AnswerRoom.{IsRoomy};
+ghost use Rattle.node_events.specs.Switching.{HasRoom};
 ghost use Rattle.net_nodes.specs.Places.{is_switch_at};
 ghost use Rattle.net_nodes.specs.Steps.{switch_outcome};
 ghost use Rattle.net_nodes.specs.Switching.{CanSwitch, SwitchActed, CanServeSwitch, NodeServed};
@@ -15,8 +15,8 @@ use call_records::Register;
 use frame_lines::Line;
 use line_end::MOST_FRAMES;
 use net_events::{Answer, Outcome, Puts, StepFault, SwitchEvent};
-use net_turns::{NetLine, make_frame_room, serve_switch};
-use placed_nodes::{Equipment, NetNode};
+use net_node::{Equipment, NetNode};
+use node_events::{NetLine, make_frame_room, serve_switch};
 use std::alloc::AllocError;
 
 /// What the event gives besides frames.

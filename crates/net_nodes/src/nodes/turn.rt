@@ -7,20 +7,20 @@ ghost use Rattle.net_events.specs.declared.event.StepFault.TheVariants.{OutOfMem
 ghost use Rattle.net_events.specs.EventView.{line_event_of, user_event_of};
 ghost use Rattle.net_events.specs.Network as network;
 ghost use Rattle.node_laws.specs.Quiet.{IsQuiet};
-ghost use Rattle.net_turns.specs.AnswerRoom.{IsRoomy};
-ghost use Rattle.net_turns.specs.Served.{IsEmpty};
-ghost use Rattle.net_turns.specs.Users.{IsWhole, IsRefusedWith, user_fault};
+ghost use Rattle.node_events.specs.AnswerRoom.{IsRoomy};
+ghost use Rattle.node_events.specs.Served.{IsEmpty};
+ghost use Rattle.node_events.specs.Users.{IsWhole, IsRefusedWith, user_fault};
 ghost use Rattle.net_nodes.specs.Turns.{LineServed, UserServed, CanServe, CanServeUser, HadTurn, CanAct, LeavesLine};
 ghost use Rattle.net_nodes.specs.Turns.{Acts, UserActs};
 
 use crate::nodes::{LineSide, Nodes};
 use call_records::{Book, Register};
 use frame_lines::Line;
-use line_nodes::Attachment;
 use link_timers::Role;
 use net_events::{Answer, LineEvent, StepFault, UserEvent};
-use net_turns::{MOST_WRITES, NetLine, make_room, serve_line, serve_user};
-use placed_nodes::{Equipment, NetNode};
+use net_node::{Equipment, NetNode};
+use node_events::{MOST_WRITES, NetLine, make_room, serve_line, serve_user};
+use user_nodes::Attachment;
 
 /// The place of the node at the end of a role of a line.
 pub(super) fn place_at<L: Line>(role: Role, net_line: &NetLine<L>) -> usize

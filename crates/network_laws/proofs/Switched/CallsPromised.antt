@@ -10,16 +10,16 @@ use Rattle.call_records.specs.Records.{RecordValue, HopValue, PairValue}
 use Rattle.call_records.specs.Book.{address_of}
 use Rattle.call_records.specs.Register.{LineEnds, found_ends}
 use Rattle.record_laws.specs.Words.{HasTyped}
-use Rattle.record_laws.specs.CallPaths.Promise.{Plan, address_at, PathIsRight, PathHolds, PathsHold, IsPlacedAt, by_caller, by_switch}
+use Rattle.record_laws.specs.CallPaths.PathPromise.{Plan, address_at, PathIsRight, PathHolds, PathsHold, IsPlacedAt, by_caller, by_switch}
 use Rattle.record_laws.proofs.Books.Basics.{get_there}
-use Rattle.line_nodes.specs.Node.{NodeState, Pad, Host}
+use Rattle.user_nodes.specs.Node.{NodeState, Pad, Host}
 use Rattle.net_events.specs.Network.{PlacedNode, NetNode, User, Switching, NetLine, Network, place_at}
-use Rattle.network_laws.specs.Promise.{PadsSend}
+use Rattle.network_laws.specs.LinesPromise.{PadsSend}
 use Rattle.network_laws.specs.CallsPromise.{NodeKind, PadNode, SwitchNode, is_user, HasNoSwitch, IsPlanFor}
 use Rattle.network_laws.specs.Switched.Plans.{has_users, IsPlanOf}
 use Rattle.network_laws.specs.Switched.IsSwitched.{IsAddressed}
 use Rattle.network_laws.specs.Switched.Histories.{HasUserAt}
-use Rattle.network_laws.specs.Switched.Promise.{user_kind, kind_of, PromisesCalls}
+use Rattle.network_laws.specs.Switched.InnerPromise.{user_kind, kind_of, PromisesCalls}
 use Rattle.network_laws.proofs.Mapped.{mapped, unmapped}
 use Rattle.network_laws.proofs.Switched.FarAddresses.{AreEnds, past, far_none}
 

@@ -10,7 +10,7 @@ use Rattle.call_records.specs.Book.{side_of, address_of}
 use Rattle.call_records.specs.Register.{book_at}
 use Rattle.record_laws.proofs.Books.Basics.{get_there}
 use Rattle.record_laws.specs.CallPaths.World.{Plan}
-use Rattle.record_laws.specs.CallPaths.Promise.{address_at, PathIsRight, PathHolds, PathsHold, IsPlacedAt, by_caller, by_switch}
+use Rattle.record_laws.specs.CallPaths.PathPromise.{address_at, PathIsRight, PathHolds, PathsHold, IsPlacedAt, by_caller, by_switch}
 use Rattle.record_laws.specs.CallPaths.OwnAddresses.{HasOwnAddress}
 use Rattle.net_events.specs.Network.{PlacedNode, User, NetLine, Network, place_at}
 use Rattle.network_laws.specs.Switched.Histories.{HasUserAt}

@@ -3,7 +3,7 @@ use Rattle.std.proofs.Common.{◌≡◌, ℕ, ◌<◌, List, Some, sym, subst}
 use Rattle.std.specs.Prelude.{slice_get}
 use Rattle.link_timers.specs.declared.role.Role.{Role}
 use Rattle.call_records.specs.Register.{book_at}
-use Rattle.line_nodes.specs.Node.{drained}
+use Rattle.user_nodes.specs.Node.{drained}
 use Rattle.node_laws.specs.Quiet.{IsQuiet}
 use Rattle.node_laws.proofs.Expiring as expiry_law
 use Rattle.frame_lines.specs.Lines.{LineService}

@@ -16,7 +16,7 @@ use Rattle.record_laws.proofs.Books.Basics.{map_at, get_there}
 use Rattle.node_laws.specs.LineRecords.Histories.{LineHistory, led, IsPossible}
 use Rattle.node_laws.proofs.LineRecords.Counting.{all_sent, all_taken, epochs_alike, counted_alike}
 use Rattle.record_laws.specs.CallPaths.Ends.{IsOf}
-use Rattle.line_nodes.specs.Node.{end_of}
+use Rattle.user_nodes.specs.Node.{end_of}
 use Rattle.net_events.specs.Network.{PlacedNode, User, NetLine, Network, place_at}
 use Rattle.network_laws.specs.Switched.Histories.{HasUserAt, LineCall, IsOfCall, HistoriesHold}
 use Rattle.network_laws.proofs.Switched.OwnLines.{same_role}

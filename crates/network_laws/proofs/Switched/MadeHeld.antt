@@ -13,14 +13,14 @@ use Rattle.address_routes.specs.Routes.{line_for}
 use Rattle.call_records.specs.Book.{Book, side_of, made_book, address_of}
 use Rattle.call_records.specs.Register.{Register, LinePlan, planned_book, empty_register, book_at}
 use Rattle.record_laws.proofs.Books.Basics.{get_there}
-use Rattle.node_laws.specs.Lines.Line.{Line, made as made_ends}
+use Rattle.node_laws.specs.Lines.NodeLine.{Line, made as made_ends}
 use Rattle.node_laws.specs.LineRecords.Kept.{Setting, Kept, end_at}
 use Rattle.node_laws.specs.LineRecords.Happens.{sent}
-use Rattle.line_nodes.specs.Node.{NodeState}
+use Rattle.user_nodes.specs.Node.{NodeState}
 use Rattle.frame_lines.specs.Lines.{Flights, LineService}
 use Rattle.switched_call_laws.specs.SwitchPaths.Sight.{Switched, Switches, OwnLines, Lines, Standing, network_line}
 use Rattle.switched_call_laws.specs.SwitchPaths.Network.{IsAtSwitch, IsNetwork}
-use Rattle.switched_call_laws.specs.SwitchPaths.Law.{IsMadeAt, IsMade as ArePathsMade}
+use Rattle.switched_call_laws.specs.SwitchPaths.SwitchPathLaws.{IsMadeAt, IsMade as ArePathsMade}
 use Rattle.switched_call_laws.proofs.SwitchPaths.Begins.{network_holds}
 use Rattle.record_laws.specs.CallPaths.World.{made_world}
 use Rattle.record_laws.specs.CallPaths.Lines.{free_book}

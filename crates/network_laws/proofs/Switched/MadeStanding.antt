@@ -17,7 +17,7 @@ use Rattle.record_laws.proofs.Books.Basics.{get_there, set_here, set_elsewhere, 
 use Rattle.switched_call_laws.specs.SwitchRecords.Tied.{Histories}
 use Rattle.switched_call_laws.specs.SwitchPaths.Sight.{Switched, Switches, OwnLines, Lines, seen_then, all_seen}
 use Rattle.switched_call_laws.specs.SwitchPaths.Network.{PlacedCall, IsNetwork}
-use Rattle.switched_call_laws.specs.SwitchPaths.Law.{with_line as with_standing}
+use Rattle.switched_call_laws.specs.SwitchPaths.SwitchPathLaws.{with_line as with_standing}
 use Rattle.switched_call_laws.proofs.SwitchPaths.Begins.{network_holds}
 use Rattle.record_laws.specs.CallPaths.World.{Origin, World, Plan, all_traced, after_event}
 use Rattle.record_laws.specs.CallPaths.World.Event.{Writes}

@@ -12,7 +12,7 @@ use Rattle.record_laws.proofs.Books.Basics.{get_there}
 use Rattle.node_laws.specs.LineRecords.Happens.{sent}
 use Rattle.node_laws.proofs.QuietTurns as quiet_law
 use Rattle.node_laws.specs.Quiet.{IsQuiet}
-use Rattle.line_nodes.specs.Node.{NodeState, Host, drained}
+use Rattle.user_nodes.specs.Node.{NodeState, Host, drained}
 use Rattle.frame_lines.specs.Lines.{Flights, LineService}
 use Rattle.switch_lines.specs.Making.{made_line}
 use Rattle.switch_lines.specs.Lines.{SwitchLine, role_on}

@@ -16,7 +16,7 @@ use Rattle.address_routes.specs.Routes.{line_for}
 use Rattle.call_records.specs.Book.{Book, new_book, made_book, address_of}
 use Rattle.call_records.specs.Register.{LinePlan}
 use Rattle.record_laws.proofs.Books.Basics.{get_there}
-use Rattle.node_laws.specs.Lines.Line.{made as made_ends}
+use Rattle.node_laws.specs.Lines.NodeLine.{made as made_ends}
 use Rattle.node_laws.specs.LineRecords.Kept.{IsSetting, Kept, end_at}
 use Rattle.node_laws.specs.LineRecords.Happens.{sent}
 use Rattle.node_laws.proofs.LineRecords.LineLaw.{made_kept}
@@ -34,7 +34,7 @@ use Rattle.switched_call_laws.specs.SwitchRecords.Tied.{Histories, IsTied, gone_
 use Rattle.switched_call_laws.specs.JoinedCalls.Calls.{JoinedCall, AreCalls}
 use Rattle.switched_call_laws.specs.SwitchPaths.Sight.{Switched, Standing, Lines, role_at, network_line, standing_with, partner_of, IsInSight}
 use Rattle.switched_call_laws.specs.SwitchPaths.Network.{IsPlanned}
-use Rattle.switched_call_laws.specs.SwitchPaths.Law.{IsMadeAt}
+use Rattle.switched_call_laws.specs.SwitchPaths.SwitchPathLaws.{IsMadeAt}
 use Rattle.switched_call_laws.proofs.SwitchRecords.Making.{made_records}
 use Rattle.switched_call_laws.proofs.SwitchRecords.Tying.{tied_holds}
 use Rattle.switched_call_laws.proofs.SwitchRecords.Turned.{sight_back}

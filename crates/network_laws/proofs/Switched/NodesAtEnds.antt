@@ -7,7 +7,7 @@ use Rattle.std.proofs.lemmas.Bool.{cases_eq}
 use Rattle.link_timers.specs.declared.role.Role.{Role}
 use Rattle.link_timers.specs.declared.role.Role.TheVariants.{Dte, Dce}
 use Rattle.record_laws.proofs.Books.Basics.{get_set, set_here, set_elsewhere, length_set}
-use Rattle.line_nodes.specs.Node.{NodeState, Host}
+use Rattle.user_nodes.specs.Node.{NodeState, Host}
 use Rattle.switch_lines.specs.Lines.{SwitchLine}
 use Rattle.net_events.specs.Network.{PlacedNode, PlacedSwitch, NetNode, User, Switching, NetLine, StandsAtLine, StandsAtLines, IsAtEnd, Stands, place_at, own_role}
 use Rattle.net_events.proofs.Users.{user_is, same_user, not_switch, not_both}

@@ -7,7 +7,7 @@ use Rattle.link_timers.specs.declared.role.Role.{Role}
 use Rattle.link_timers.specs.declared.role.Role.TheVariants.{Dte, Dce}
 use Rattle.link_timers.specs.Role.{other_of}
 use Rattle.record_laws.proofs.Books.Basics.{get_there, number_is, eq_true, by_true, by_false}
-use Rattle.line_nodes.specs.Node.{NodeState}
+use Rattle.user_nodes.specs.Node.{NodeState}
 use Rattle.record_laws.specs.CallPaths.World.{Plan}
 use Rattle.switched_call_laws.specs.SwitchPaths.Sight.{Switched, Switches, found_line, network_line, role_at}
 use Rattle.switched_call_laws.specs.SwitchPaths.Network.{IsOther, IsPlanned}

@@ -2,12 +2,12 @@
 use Rattle.std.proofs.Common.{◌≡◌, ℕ, sym, ap, ◌∙◌}
 use Rattle.std.specs.Prelude.{slice_get}
 use Rattle.packet_layer.specs.Layer.{confirmed}
-use Rattle.line_nodes.specs.Node.{end_of}
+use Rattle.user_nodes.specs.Node.{end_of}
 use Rattle.frame_lines.specs.Lines.{LineService}
 use Rattle.net_events.specs.Network.{PlacedNode}
 use Rattle.net_events.proofs.Users.{same_user}
-use Rattle.network_laws.specs.Promise.{EndHolds}
-use Rattle.network_laws.specs.Switched.Promise.{NetworkPromise}
+use Rattle.network_laws.specs.LinesPromise.{EndHolds}
+use Rattle.network_laws.specs.Switched.InnerPromise.{NetworkPromise}
 use Rattle.network_laws.specs.Switched.Laws.{PromiseLaw, DeliveredLaw}
 use Rattle.network_laws.proofs.Switched.PromiseHeld.{promise_held}
 

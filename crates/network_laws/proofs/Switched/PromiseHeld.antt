@@ -10,7 +10,7 @@ use Rattle.call_records.specs.Records.{RecordValue}
 use Rattle.call_records.specs.Book.{Book, side_of}
 use Rattle.call_records.specs.Register.{Register, book_at}
 use Rattle.record_laws.specs.Books.Headline.{HaveRecords, HasCallee, has_call}
-use Rattle.record_laws.specs.Registers.Promise.{HasRecords}
+use Rattle.record_laws.specs.Registers.RegisterPromise.{HasRecords}
 use Rattle.node_laws.specs.LineRecords.Kept.{end_at}
 use Rattle.node_laws.specs.LineRecords.Confirmed.{SaysConfirmed}
 use Rattle.node_laws.specs.LineRecords.Counted.{ShowsCounts}
@@ -21,21 +21,21 @@ use Rattle.node_laws.specs.LineRecords.Histories.{LineHistory}
 use Rattle.node_laws.proofs.LineRecords.Histories.{history_kept}
 use Rattle.record_laws.specs.CallPaths.Ends.{IsOf, IsOfPresent, EndIsSeen, IsOfUser}
 use Rattle.record_laws.specs.CallPaths.Seen.{SideIsSeen}
-use Rattle.record_laws.specs.CallPaths.Promise.{address_at, PathsHold}
+use Rattle.record_laws.specs.CallPaths.PathPromise.{address_at, PathsHold}
 use Rattle.record_laws.proofs.CallPaths.Ending.{ends_seen, users_own, open_seen}
-use Rattle.switched_call_laws.specs.SwitchPaths.Law as paths
+use Rattle.switched_call_laws.specs.SwitchPaths.SwitchPathLaws as paths
 use Rattle.switched_call_laws.proofs.SwitchPaths.Begins.{network_holds}
-use Rattle.line_nodes.specs.Node.{NodeState, end_of, is_pad}
+use Rattle.user_nodes.specs.Node.{NodeState, end_of, is_pad}
 use Rattle.frame_lines.specs.Lines.{LineService}
 use Rattle.net_events.specs.OneLine.{LineState}
 use Rattle.net_events.specs.Network.{PlacedNode, NetNode, User, Switching, NetLine, Network, place_at, StandsAtLine}
 use Rattle.network_laws.specs.IsLine.{line_of, IsLine, IsKept}
-use Rattle.network_laws.specs.Promise.{EndHolds, PlacedHolds, PadsSend}
+use Rattle.network_laws.specs.LinesPromise.{EndHolds, PlacedHolds, PadsSend}
 use Rattle.network_laws.proofs.Answering.{came_kept, paired_kept, placed_kept, records_kept}
 use Rattle.network_laws.proofs.Made.{sends_line}
 use Rattle.network_laws.specs.Switched.IsSwitched.{ends_state, LineStands, IsHeld, IsSwitched, IsAddressed}
 use Rattle.network_laws.specs.Switched.Histories.{HasUserAt, HistoriesHold}
-use Rattle.network_laws.specs.Switched.Promise.{NetworkPromise}
+use Rattle.network_laws.specs.Switched.InnerPromise.{NetworkPromise}
 use Rattle.network_laws.proofs.Switched.FarAddresses.{AreEnds}
 use Rattle.network_laws.proofs.Switched.CallsPromised.{calls_promised}
 use Rattle.network_laws.proofs.Switched.Histories.{LineData, IsLed, IsOwned, PairsAre, histories_hold}

@@ -6,28 +6,28 @@ use Rattle.std.proofs.lemmas.Option.{same_Some, none-some}
 use Rattle.std.proofs.lemmas.Bool.{and_parts}
 use Rattle.link_timers.specs.declared.role.Role.{Role}
 use Rattle.link_timers.specs.declared.role.Role.TheVariants.{Dte, Dce}
-use Rattle.node_laws.specs.Lines.Line.{Line}
-use Rattle.node_laws.specs.Lines.Rest.{AreAtRest}
+use Rattle.node_laws.specs.Lines.NodeLine.{Line}
+use Rattle.node_laws.specs.Lines.LineRest.{AreAtRest}
 use Rattle.record_laws.proofs.Books.Basics.{get_there}
 use Rattle.call_records.specs.Book.{Book}
 use Rattle.call_records.specs.Register.{Register}
-use Rattle.record_laws.specs.Books.Rest.{NothingMissing}
+use Rattle.record_laws.specs.Books.BookRest.{NothingMissing}
 use Rattle.node_laws.proofs.LineRecords.Missing.{rest_kept}
-use Rattle.line_nodes.specs.Node.{NodeState, node_rests}
+use Rattle.user_nodes.specs.Node.{NodeState, node_rests}
 use Rattle.frame_lines.specs.Lines.{LineService}
 use Rattle.packet_end.specs.PacketEnd.{at_rest}
 use Rattle.switch_joins.specs.Joins.{gathers_nothing}
 use Rattle.switch_lines.specs.Switch.{line_rests}
-use Rattle.switched_call_laws.specs.SwitchPaths.Law.{GathersNothing, SwitchesRest}
+use Rattle.switched_call_laws.specs.SwitchPaths.SwitchPathLaws.{GathersNothing, SwitchesRest}
 use Rattle.switched_call_laws.specs.SwitchPaths.Sight.{Switched}
 use Rattle.switched_call_laws.proofs.SwitchPaths.Gathering.{none_gathered}
 use Rattle.switched_call_laws.proofs.SwitchPaths.Begins.{network_holds}
 use Rattle.net_events.specs.OneLine.{LineState}
 use Rattle.net_events.specs.Network.{NetNode, User, Switching, NetLine, Network, place_at}
 use Rattle.network_laws.specs.IsLine.{line_of}
-use Rattle.network_laws.specs.Rest.{MissesNothing}
+use Rattle.network_laws.specs.NetworkRest.{MissesNothing}
 use Rattle.network_laws.specs.Switched.IsSwitched.{ends_state, line_between, IsEndOf, EndStands, LineStands, IsHeld, IsSwitched}
-use Rattle.network_laws.specs.Switched.Rest.{AreAllAtRest}
+use Rattle.network_laws.specs.Switched.SwitchedRest.{AreAllAtRest}
 use Rattle.network_laws.specs.Switched.Laws.{RestLaw}
 use Rattle.network_laws.proofs.Switched.OwnLines.{switch_there}
 use Rattle.network_laws.proofs.Switched.PromiseHeld.{held, LineHas, line_has, its_line}

@@ -11,7 +11,7 @@ use Rattle.call_records.specs.Book.{Book, address_of, side_of}
 use Rattle.call_records.specs.Writes.{Write, all_written}
 use Rattle.call_records.specs.Register.{Register, book_at}
 use Rattle.node_laws.specs.LineRecords.Kept.{Kept}
-use Rattle.line_nodes.specs.Node.{NodeState, Pad, Host, end_of}
+use Rattle.user_nodes.specs.Node.{NodeState, Pad, Host, end_of}
 use Rattle.frame_lines.specs.Lines.{LineService}
 use Rattle.node_laws.proofs.Pads.Holding as pad_law
 use Rattle.switch_lines.specs.Lines.{SwitchLine}
@@ -20,7 +20,7 @@ use Rattle.switched_call_laws.specs.SwitchRecords.Kept.{Partner, sent_on}
 use Rattle.switched_call_laws.specs.SwitchRecords.Tied.{Histories}
 use Rattle.switched_call_laws.specs.SwitchPaths.Sight.{Switched, Standing, network_line, role_at, IsInSight}
 use Rattle.switched_call_laws.specs.SwitchPaths.Network.{IsOther}
-use Rattle.switched_call_laws.specs.SwitchPaths.Law.{IsWritten}
+use Rattle.switched_call_laws.specs.SwitchPaths.SwitchPathLaws.{IsWritten}
 use Rattle.switched_call_laws.proofs.SwitchRecords.Turned.{written_seen}
 use Rattle.switched_call_laws.proofs.SwitchPaths.Elsewhere.{kept_in_sight}
 use Rattle.record_laws.specs.CallPaths.World.{Plan}

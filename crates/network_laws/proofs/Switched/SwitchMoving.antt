@@ -12,8 +12,8 @@ use Rattle.switch_joins.specs.declared.channels.NewJoin.{NewJoin}
 use Rattle.switch_lines.specs.Switch.{Switch, timer_runs, on_expiry}
 use Rattle.switch_laws.specs.Steps.Happening.{Brings, RunsOut, Relinks as RelinksLine}
 use Rattle.switch_laws.specs.Steps.Step.{Happens}
-use Rattle.node_laws.specs.Lines.Line.{other_after}
-use Rattle.node_laws.specs.Lines.Line as line_law
+use Rattle.node_laws.specs.Lines.NodeLine.{other_after}
+use Rattle.node_laws.specs.Lines.NodeLine as line_law
 use Rattle.packet_laws.specs.Readable.{AreOctets}
 use Rattle.switched_call_laws.specs.SwitchRecords.Kept.{Partners, partners_after, restarted_partner, BeginWith}
 use Rattle.switched_call_laws.specs.SwitchRecords.Tied.{Histories, IsTied, happened, restarted}
@@ -23,7 +23,7 @@ use Rattle.record_laws.specs.CallPaths.World.{Origin, Join, World, Plan}
 use Rattle.switched_call_laws.specs.SwitchPaths.Sight.{Switched, Switches, OwnLines, Lines, found_line, network_line, role_at, all_seen, all_after}
 use Rattle.switched_call_laws.specs.SwitchPaths.Network.{IsOther, PlacedCall, placed_at, of_switch, AreJoins}
 use Rattle.switched_call_laws.specs.SwitchPaths.Network as paths
-use Rattle.switched_call_laws.specs.SwitchPaths.Law.{calls_in, join_of_call, IsWritten, NetworkAfter}
+use Rattle.switched_call_laws.specs.SwitchPaths.SwitchPathLaws.{calls_in, join_of_call, IsWritten, NetworkAfter}
 use Rattle.switched_call_laws.proofs.SwitchPaths.Begins.{network_holds}
 use Rattle.switched_call_laws.proofs.JoinedCalls.Outside.{nothing_written, writes_hold}
 use Rattle.net_events.specs.Network.{PlacedSwitch}

@@ -8,11 +8,11 @@ use Rattle.link_timers.specs.declared.role.Role.TheVariants.{Dte, Dce}
 use Rattle.link_timers.specs.Role.{other_of}
 use Rattle.record_laws.proofs.Books.Basics.{get_there, get_set, number_is, eq_true, by_true, by_false}
 use Rattle.lapb.specs.Machine.{Octets}
-use Rattle.lapb.specs.Line.{chosen}
+use Rattle.lapb.specs.LinkLine.{chosen}
 use Rattle.packet_end.specs.PacketEnd.{PacketEnd}
-use Rattle.node_laws.specs.Lines.Line.{Line, other_after}
-use Rattle.node_laws.specs.Lines.Line as line_law
-use Rattle.line_nodes.specs.Node.{NodeState, end_of}
+use Rattle.node_laws.specs.Lines.NodeLine.{Line, other_after}
+use Rattle.node_laws.specs.Lines.NodeLine as line_law
+use Rattle.user_nodes.specs.Node.{NodeState, end_of}
 use Rattle.frame_lines.specs.Lines.{Flights, no_flights, LineService, ArePut, flying, with_flying, without_first}
 use Rattle.switch_lines.specs.Lines.{SwitchLine}
 use Rattle.switch_lines.specs.Switch.{frames_on}

@@ -11,7 +11,7 @@ use Rattle.switched_call_laws.specs.SwitchRecords.Kept.{Partner, all_frames_out,
 use Rattle.switched_call_laws.specs.SwitchRecords.Tied.{Histories, gone_out, sent_out}
 use Rattle.switched_call_laws.specs.SwitchPaths.Sight.{Switched, Switches, OwnLines, Lines, all_seen, all_after}
 use Rattle.switched_call_laws.specs.SwitchPaths.Network.{PlacedCall}
-use Rattle.switched_call_laws.specs.SwitchPaths.Law.{NetworkStays}
+use Rattle.switched_call_laws.specs.SwitchPaths.SwitchPathLaws.{NetworkStays}
 use Rattle.switched_call_laws.proofs.SwitchPaths.Begins.{network_holds}
 use Rattle.record_laws.specs.CallPaths.World.{Origin, World, Plan}
 use Rattle.switched_call_laws.specs.QuietSwitches.Quiet.{all_gone_out, drained}

@@ -8,7 +8,7 @@ use Rattle.link_timers.specs.declared.role.Role.TheVariants.{Dce}
 use Rattle.packet_end.specs.PacketEnd.{PacketEnd}
 use Rattle.record_laws.proofs.Books.Basics.{get_there, number_is, get_set, set_here, set_elsewhere}
 use Rattle.node_laws.specs.Quiet.{IsQuiet}
-use Rattle.line_nodes.specs.Node.{NodeState, Host, is_pad}
+use Rattle.user_nodes.specs.Node.{NodeState, Host, is_pad}
 use Rattle.frame_lines.specs.Lines.{LineService}
 use Rattle.switch_lines.specs.Lines.{SwitchLine, role_on}
 use Rattle.switch_lines.specs.Switch.{Switch, timer_runs, on_expiry, relink, without_joins}

@@ -9,16 +9,16 @@ use Rattle.call_records.specs.Book.{Book, side_of}
 use Rattle.call_records.specs.Writes.{Write, all_written}
 use Rattle.call_records.specs.Register.{Register, book_at, with_book, all_written_at}
 use Rattle.record_laws.proofs.Books.Basics.{get_there, set_here, set_elsewhere, length_set}
-use Rattle.node_laws.specs.Lines.Line.{Line}
+use Rattle.node_laws.specs.Lines.NodeLine.{Line}
 use Rattle.node_laws.specs.LineRecords.Kept.{end_at}
 use Rattle.node_laws.specs.Quiet.{IsQuiet}
-use Rattle.line_nodes.specs.Node.{NodeState, drained}
+use Rattle.user_nodes.specs.Node.{NodeState, drained}
 use Rattle.frame_lines.specs.declared.line.Direction.{Direction}
 use Rattle.frame_lines.specs.Lines.{Flights, LineService}
 use Rattle.record_laws.specs.CallPaths.World.{all_traced, after_event}
 use Rattle.record_laws.specs.CallPaths.World.Event.{Writes}
 use Rattle.switched_call_laws.specs.SwitchPaths.Sight.{Standing}
-use Rattle.switched_call_laws.specs.SwitchPaths.Law.{StaysKept}
+use Rattle.switched_call_laws.specs.SwitchPaths.SwitchPathLaws.{StaysKept}
 use Rattle.switched_call_laws.proofs.SwitchPaths.Begins.{network_holds}
 use Rattle.net_events.specs.NodeEvents.{NodeEvent, turn_of}
 use Rattle.net_events.specs.Network.{PlacedNode, NetNode, User, NetLine, Network, place_at, net_turn, HappenedAt, LostAt}

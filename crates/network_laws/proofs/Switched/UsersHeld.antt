@@ -14,7 +14,7 @@ use Rattle.record_laws.specs.CallPaths.World.{Origin, World, Plan}
 use Rattle.switched_call_laws.specs.SwitchPaths.Sight.{Switched, Switches, OwnLines, Lines, Standing, seen_then, all_seen}
 use Rattle.switched_call_laws.specs.SwitchPaths.Network.{PlacedCall}
 use Rattle.switched_call_laws.specs.SwitchPaths.Network as paths
-use Rattle.switched_call_laws.specs.SwitchPaths.Law.{with_line}
+use Rattle.switched_call_laws.specs.SwitchPaths.SwitchPathLaws.{with_line}
 use Rattle.switched_call_laws.proofs.SwitchPaths.Listing.{if_same, if_else}
 use Rattle.net_events.specs.Network.{PlacedSwitch, NetNode, User, Switching, NetLine, Network, place_at}
 use Rattle.network_laws.specs.IsLine.{IsLine}

@@ -10,10 +10,10 @@ use Rattle.address_routes.specs.Routes.{RouteMap, line_for}
 use Rattle.packet_end.specs.PacketEnd as end
 use Rattle.packet_end.specs.PacketEnd.{PacketEnd}
 use Rattle.record_laws.proofs.Books.Basics.{get_there, number_is}
-use Rattle.node_laws.specs.Lines.Line.{Line}
+use Rattle.node_laws.specs.Lines.NodeLine.{Line}
 use Rattle.node_laws.specs.LineRecords.Kept.{end_at}
 use Rattle.node_laws.proofs.QuietTurns as quiet_law
-use Rattle.line_nodes.specs.Node.{NodeState, Pad, Host, end_of, is_pad, node_elapsed}
+use Rattle.user_nodes.specs.Node.{NodeState, Pad, Host, end_of, is_pad, node_elapsed}
 use Rattle.frame_lines.specs.Lines.{LineService}
 use Rattle.switch_lines.specs.Lines.{SwitchLine, role_on}
 use Rattle.switch_lines.specs.Switch.{elapse, with_end}
@@ -21,7 +21,7 @@ use Rattle.switched_call_laws.specs.SwitchRecords.Kept.{Partner}
 use Rattle.switched_call_laws.specs.SwitchPaths.Sight.{Switched, Switches, Lines, Standing, network_line, standing_with, all_seen, all_after}
 use Rattle.switched_call_laws.specs.SwitchPaths.Network.{IsOther}
 use Rattle.switched_call_laws.specs.SwitchPaths.Network as paths
-use Rattle.switched_call_laws.specs.SwitchPaths.Law.{NetworkStays, with_line}
+use Rattle.switched_call_laws.specs.SwitchPaths.SwitchPathLaws.{NetworkStays, with_line}
 use Rattle.switched_call_laws.proofs.SwitchPaths.Begins.{network_holds}
 use Rattle.switched_call_laws.proofs.SwitchPaths.Listing.{if_same, if_else}
 use Rattle.switched_call_laws.proofs.SwitchPaths.Elsewhere.{own_end, other_end}

@@ -7,7 +7,7 @@ use Rattle.record_laws.specs.Books.Open.{layers_at}
 use Rattle.record_laws.specs.Books.Counts.{HasEpochs, HasCounted}
 use Rattle.record_laws.specs.Books.AcceptedCalls.{CallUse, epochs_at, was_accepted}
 use Rattle.node_laws.specs.LineRecords.Histories.{LineHistory, led, IsPossible}
-use Rattle.line_nodes.specs.Node.{end_of}
+use Rattle.user_nodes.specs.Node.{end_of}
 use Rattle.net_events.specs.Network.{PlacedNode, User, NetLine, Network, place_at}
 
 -- a node with users stands at the end of a role of a line

@@ -3,9 +3,9 @@ use Rattle.std.specs.Prelude.{◌≡◌, ◌≢◌, ℕ, false, List, length, sl
 use Rattle.link_timers.specs.declared.role.Role.{Role}
 use Rattle.link_timers.specs.declared.role.Role.TheVariants.{Dte, Dce}
 use Rattle.call_records.specs.Book.{Book, side_of}
-use Rattle.node_laws.specs.Lines.Line.{Line}
+use Rattle.node_laws.specs.Lines.NodeLine.{Line}
 use Rattle.node_laws.specs.Quiet.{IsQuiet}
-use Rattle.line_nodes.specs.Node.{NodeState, Host, end_of, is_pad}
+use Rattle.user_nodes.specs.Node.{NodeState, Host, end_of, is_pad}
 use Rattle.frame_lines.specs.Lines.{LineService}
 use Rattle.switch_lines.specs.Lines.{SwitchLine}
 use Rattle.switched_call_laws.specs.SwitchRecords.Tied.{Histories}

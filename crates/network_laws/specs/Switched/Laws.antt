@@ -3,7 +3,7 @@ use Rattle.std.specs.Prelude.{◌≡◌, ℕ, ◌<◌, true, slice_get, Some}
 use Rattle.link_timers.specs.declared.role.Role.{Role}
 use Rattle.link_timers.specs.declared.timers.TimerId.{TimerId}
 use Rattle.packet_layer.specs.Layer.{confirmed}
-use Rattle.line_nodes.specs.Node.{end_of, node_due}
+use Rattle.user_nodes.specs.Node.{end_of, node_due}
 use Rattle.frame_lines.specs.declared.line.Direction.{Direction}
 use Rattle.frame_lines.specs.Lines.{LineService}
 use Rattle.switch_lines.specs.Switch.{due_on}
@@ -16,10 +16,10 @@ use Rattle.net_config.specs.NetPlan.{NetPlan, IsPlan}
 use Rattle.net_events.specs.Opening.{IsMade}
 use Rattle.network_laws.specs.DueCount.{all_due}
 use Rattle.network_laws.specs.PlacedTime.{elapsed_by}
-use Rattle.network_laws.specs.Rest.{MissesNothing, IsDelivered}
-use Rattle.network_laws.specs.Switched.Rest.{AreAllAtRest}
+use Rattle.network_laws.specs.NetworkRest.{MissesNothing, IsDelivered}
+use Rattle.network_laws.specs.Switched.SwitchedRest.{AreAllAtRest}
 use Rattle.network_laws.specs.Switched.IsSwitched.{IsAny}
-use Rattle.network_laws.specs.Switched.Promise.{NetworkPromise}
+use Rattle.network_laws.specs.Switched.InnerPromise.{NetworkPromise}
 
 abbrev pub MadeLaw : LineService → Type 0
 MadeLaw L = (plan : NetPlan) (s : Network) → IsPlan plan → IsMade L plan s → IsAny L s

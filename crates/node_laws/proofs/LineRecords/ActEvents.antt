@@ -12,9 +12,9 @@ use Rattle.data_transfer.specs.Packets.{Packet, Note}
 use Rattle.packet_layer.specs.Layer.{Layer, Timer, unread, runs, next_packet, link_up, on_timer, expired}
 use Rattle.packet_layer.specs.Layer.Timer.{RestartTimer, CallTimer, ResetTimer, ClearTimer}
 use Rattle.packet_layer.specs.Events.{timer_named}
-use Rattle.packet_laws.specs.Line as layers
-use Rattle.packet_laws.specs.Line.{Event, happens, may_begin, begun, arrives_in, next_of_session}
-use Rattle.packet_laws.specs.Line.Event.{Up, Down, Calls, Requests, Expires, Offers, Arrives}
+use Rattle.packet_laws.specs.LayerLine as layers
+use Rattle.packet_laws.specs.LayerLine.{Event, happens, may_begin, begun, arrives_in, next_of_session}
+use Rattle.packet_laws.specs.LayerLine.Event.{Up, Down, Calls, Requests, Expires, Offers, Arrives}
 use Rattle.packet_end.specs.PacketEnd.{PacketEnd, runs_at, with_next}
 use Rattle.node_laws.specs.Lines.Events.{note_events, packet_events, frame_events, timer_events, expiry_events, offer_events, after_here, cleared}
 use Rattle.node_laws.specs.Lines.Events as line_events

@@ -14,9 +14,9 @@ use Rattle.packet_layer.specs.Layer.{Layer, channel_of, confirmed_at}
 use Rattle.packet_laws.specs.History.{Epoch}
 use Rattle.packet_laws.specs.Counts.{NamesCounts, AreDelivered}
 use Rattle.packet_laws.specs.Counted.{IsCounted}
-use Rattle.packet_laws.specs.Law.{epoch_now}
+use Rattle.packet_laws.specs.LayerLineLaw.{epoch_now}
 use Rattle.packet_laws.proofs.Naming.{counts_hold}
-use Rattle.node_laws.specs.Lines.Line.{Line}
+use Rattle.node_laws.specs.Lines.NodeLine.{Line}
 use Rattle.call_records.specs.Records.{RecordValue}
 use Rattle.call_records.specs.Book.{Book, packet_of, slot_at}
 use Rattle.record_laws.specs.Books.Told.{World, after_all}

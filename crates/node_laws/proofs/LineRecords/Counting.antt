@@ -12,12 +12,12 @@ use Rattle.data_transfer.proofs.Windows.{window_below}
 use Rattle.packet_channel.specs.Channel.{Channel, in_transfer}
 use Rattle.packet_layer.specs.Layer.{Layer, channel_of, unread}
 use Rattle.packet_laws.specs.History.{Epoch, empty_epoch}
-use Rattle.packet_laws.specs.Line.{End}
+use Rattle.packet_laws.specs.LayerLine.{End}
 use Rattle.packet_laws.specs.Counts.{NamesCounts}
 use Rattle.packet_laws.specs.Counted.{IsCounted}
-use Rattle.packet_laws.specs.Law.{epoch_now}
+use Rattle.packet_laws.specs.LayerLineLaw.{epoch_now}
 use Rattle.packet_laws.proofs.Numbers.{uncovered_is, unreleased_is}
-use Rattle.node_laws.specs.Lines.Line.{Line}
+use Rattle.node_laws.specs.Lines.NodeLine.{Line}
 use Rattle.call_records.specs.Records.{RecordValue}
 use Rattle.call_records.specs.Book.{Book, packet_of, slot_at, side_of}
 use Rattle.record_laws.specs.Books.Told.{World, after_all}

@@ -7,12 +7,12 @@ use Rattle.link_timers.specs.Role.{other_of}
 use Rattle.data_transfer.specs.declared.flow.Flow.{Flow}
 use Rattle.data_transfer.specs.Packets.{Packet}
 use Rattle.packet_layer.specs.Layer.{Layer}
-use Rattle.packet_laws.specs.Line as layers
-use Rattle.packet_laws.specs.Line.{Event, End, accepts, arrives_in, begun, happens, may_begin, next_of_session, offers, turned}
-use Rattle.packet_laws.specs.Line.Event.{Up, Down, Calls, Requests, Expires, Offers, Arrives}
-use Rattle.packet_laws.specs.Line.Happening.{Here, There}
+use Rattle.packet_laws.specs.LayerLine as layers
+use Rattle.packet_laws.specs.LayerLine.{Event, End, accepts, arrives_in, begun, happens, may_begin, next_of_session, offers, turned}
+use Rattle.packet_laws.specs.LayerLine.Event.{Up, Down, Calls, Requests, Expires, Offers, Arrives}
+use Rattle.packet_laws.specs.LayerLine.Happening.{Here, There}
 use Rattle.packet_laws.proofs.Line.Arriving.{packet_same}
-use Rattle.node_laws.specs.Lines.Line.{Line}
+use Rattle.node_laws.specs.Lines.NodeLine.{Line}
 use Rattle.node_laws.proofs.Lines.Flows.{call_flow, request_flow, timer_flow, next_flow}
 use Rattle.call_records.specs.Book.{Book}
 use Rattle.record_laws.specs.Books.Told.{World, Move, after_move, after_all}

@@ -17,7 +17,7 @@ use Rattle.packet_layer.specs.Layer.{Phase, Layer, channel_of, channel_given, fr
 use Rattle.packet_layer.specs.Layer.Phase.{NoSession, OwnRestart, PacketReady}
 use Rattle.packet_laws.specs.Readable.{CanBePlaced}
 use Rattle.packet_end.specs.PacketEnd.{PacketEnd, begun, finished, asked, called, runs_at, after_timer}
-use Rattle.node_laws.specs.Lines.Line.{Line}
+use Rattle.node_laws.specs.Lines.NodeLine.{Line}
 use Rattle.packet_host.specs.Host as host
 use Rattle.packet_host.specs.Host.{ended, after_call, after_request, after_refuse, after_say, after_take, after_expiry, let_go, taken_as}
 use Rattle.data_transfer.specs.Flow.{is_size}
@@ -29,7 +29,7 @@ use Rattle.call_records.specs.Book.{Book, sends, closes, takes, all_told}
 use Rattle.record_laws.specs.Books.Told.{unless_refused, carried, placed_on}
 use Rattle.record_laws.proofs.Books.Layers.{put_here}
 use Rattle.node_laws.specs.LineRecords.Kept.{Setting, Kept, end_at, coming_to}
-use Rattle.node_laws.specs.LineRecords.Clauses.{requested_at}
+use Rattle.node_laws.specs.LineRecords.LineRecordClauses.{requested_at}
 use Rattle.node_laws.specs.LineRecords.Happens.{with_event}
 use Rattle.node_laws.specs.LineRecords.Hosts.{sends_all, says, refuses, lets_go, takes_any, IsKeptAfter, HostExpiryLaw, HostCallLaw, HostRequestLaw, HostSayLaw, HostRefuseLaw, HostTakeLaw}
 use Rattle.node_laws.proofs.LineRecords.WaitsInTransfer.{found_open}

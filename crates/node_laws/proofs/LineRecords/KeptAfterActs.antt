@@ -12,12 +12,12 @@ use Rattle.data_transfer.specs.Packets.{CallParts, Note}
 use Rattle.packet_channel.specs.Channel.{Request}
 use Rattle.packet_layer.specs.Layer.{Layer, Phase, unread, next_packet, link_down, channel_given, request_refusal, front_on}
 use Rattle.packet_layer.specs.Layer.Phase.{NoSession, OwnRestart, PacketReady}
-use Rattle.packet_laws.specs.Line as layers
-use Rattle.packet_laws.specs.Line.{Event, happens}
+use Rattle.packet_laws.specs.LayerLine as layers
+use Rattle.packet_laws.specs.LayerLine.{Event, happens}
 use Rattle.packet_laws.specs.Readable.{CanBePlaced}
 use Rattle.packet_end.specs.PacketEnd.{PacketEnd, with_next}
-use Rattle.node_laws.specs.Lines.Line as acts
-use Rattle.node_laws.specs.Lines.Line.{Line, Act, Begins, Hears, Expires, Relinks, RelinksIfDue, Restarts, Calls, Requests, Offers, Settles, Elapses, Sends, At, does, other_after, going_after, coming_after}
+use Rattle.node_laws.specs.Lines.NodeLine as acts
+use Rattle.node_laws.specs.Lines.NodeLine.{Line, Act, Begins, Hears, Expires, Relinks, RelinksIfDue, Restarts, Calls, Requests, Offers, Settles, Elapses, Sends, At, does, other_after, going_after, coming_after}
 use Rattle.node_laws.specs.Lines.Events.{offer_events, after_here, notes_of}
 use Rattle.node_laws.specs.Lines.Fit.{IsFit}
 use Rattle.node_laws.specs.Lines.Joint.{session_of, coming_session, session_now}
@@ -27,7 +27,7 @@ use Rattle.node_laws.proofs.Lines.Holding.{act_steps, loses_joint}
 use Rattle.call_records.specs.Book.{Book, edits, all_told}
 use Rattle.record_laws.specs.Books.Told.{carried, unless_refused, placed_on, InOrder}
 use Rattle.node_laws.specs.LineRecords.Kept.{Setting, Kept, beginning, end_at, coming_to}
-use Rattle.node_laws.specs.LineRecords.Clauses.{requested_at}
+use Rattle.node_laws.specs.LineRecords.LineRecordClauses.{requested_at}
 use Rattle.node_laws.proofs.LineRecords.MovesFromOneEnd.{one_edit, all_events, written_all, tops_after, AllInOrder}
 use Rattle.node_laws.proofs.LineRecords.ActEvents.{IsPlain, plain_frame, plain_if, plain_expires, plain_offers, in_order, tops_rise, plain_written}
 use Rattle.node_laws.proofs.LineRecords.Views.{KeptAt, unseen}

@@ -13,17 +13,17 @@ use Rattle.line_end.specs.End as line
 use Rattle.data_transfer.specs.Packets.{Note}
 use Rattle.data_transfer.specs.Packets.Note.{Closed}
 use Rattle.data_transfer.specs.Packets.Reason.{LinkLost}
-use Rattle.packet_channel.specs.Channel.{CallState, Channel, Request, Refusal, refusal, refused_if, in_transfer, entered}
-use Rattle.packet_channel.specs.Channel.CallState.{Ready, OwnWaiting, FarWaiting, Transfer, Collision, OwnClear}
+use Rattle.packet_channel.specs.Channel.{ChannelState, Channel, Request, Refusal, refusal, refused_if, in_transfer, entered}
+use Rattle.packet_channel.specs.Channel.ChannelState.{Ready, OwnWaiting, FarWaiting, Transfer, Collision, OwnClear}
 use Rattle.packet_channel.specs.Channel.Request.{Accept, Clearing, Resetting, Sending, Interrupting, Stopping, Taking, Releasing, Confirming}
 use Rattle.packet_layer.specs.Layer as machine
 use Rattle.packet_layer.specs.Layer.{Layer, channel_of, link_down, channel_given, had_call, closing_notes, flow_refusal_at, refusal_at}
 use Rattle.packet_laws.specs.Readable.{IsReadable}
-use Rattle.packet_laws.specs.Line as layers
+use Rattle.packet_laws.specs.LayerLine as layers
 use Rattle.packet_end.specs.PacketEnd.{PacketEnd}
 use Rattle.packet_end.specs.Params.{info_of}
-use Rattle.node_laws.specs.Lines.Line as acts
-use Rattle.node_laws.specs.Lines.Line.{Line, Act, Begins, Hears, Expires, Relinks, RelinksIfDue, Restarts, Calls, Requests, Offers, Settles, Elapses, Sends, At, does, other_after, going_after, coming_after, made}
+use Rattle.node_laws.specs.Lines.NodeLine as acts
+use Rattle.node_laws.specs.Lines.NodeLine.{Line, Act, Begins, Hears, Expires, Relinks, RelinksIfDue, Restarts, Calls, Requests, Offers, Settles, Elapses, Sends, At, does, other_after, going_after, coming_after, made}
 use Rattle.node_laws.specs.Lines.Joint.{Joint, Stands, side, Follows}
 use Rattle.node_laws.proofs.Lines.Holding.{new_joint}
 use Rattle.call_records.specs.Book.{Book, Slot, side_of, slot_at, closes, edits, all_told}
@@ -34,7 +34,7 @@ use Rattle.record_laws.specs.Books.Headline.{BookHolds, IsBeside, has_call}
 use Rattle.record_laws.proofs.Books.BookHolds.{book_holds}
 use Rattle.record_laws.proofs.Books.Beside.{is_beside}
 use Rattle.node_laws.specs.LineRecords.Kept.{Setting, Kept, IsLike, beginning, end_at, coming_to}
-use Rattle.node_laws.specs.LineRecords.Clauses.{MadeLaw, Tells, TellsLaw, SilentLaw, RestartLaw, CallLaw, requested_at, RequestLaw, LossLaw, EditLaw, LikeLaw, HoldsLaw, PresentLaw, IsInTransfer, TransferLaw, AskedLaw, FrontLaw, ChannelsLaw, ClosingLaw}
+use Rattle.node_laws.specs.LineRecords.LineRecordClauses.{MadeLaw, Tells, TellsLaw, SilentLaw, RestartLaw, CallLaw, requested_at, RequestLaw, LossLaw, EditLaw, LikeLaw, HoldsLaw, PresentLaw, IsInTransfer, TransferLaw, AskedLaw, FrontLaw, ChannelsLaw, ClosingLaw}
 use Rattle.node_laws.proofs.LineRecords.WaitsInTransfer.{found_open}
 use Rattle.node_laws.proofs.LineRecords.Views.{kept_waits, KeptAt, seen, unseen}
 use Rattle.node_laws.proofs.LineRecords.KeptAfterActs.{hears_at, expires_at, relinks_at, relinks_if_due_at, begins_at, settles_at, elapses_at, sends_at, offers_at, restarts_at, calls_at, requests_at, loses_at, edits_at, kept_happens, end_is}
@@ -190,7 +190,7 @@ refusal_number None = 0
 refusal_number (Some Refusal.NoCall) = 1
 refusal_number (Some r) = 2
 
-transfer_call : (state : CallState) (resetting : Bool) → IsInTransfer (refused_if (not (in_transfer state)) Refusal.NoCall (refused_if resetting Refusal.IsResetting None)) → had_call state ≡ true
+transfer_call : (state : ChannelState) (resetting : Bool) → IsInTransfer (refused_if (not (in_transfer state)) Refusal.NoCall (refused_if resetting Refusal.IsResetting None)) → had_call state ≡ true
 transfer_call Ready resetting h = absurd h
 transfer_call OwnClear resetting h = absurd h
 transfer_call OwnWaiting resetting h = refl
@@ -227,7 +227,7 @@ clear_refused role flow ch Taking = refl
 clear_refused role flow ch (Releasing n) = refl
 clear_refused role flow ch Confirming = refl
 
-request_call : (role : Role) (flow : Flow) (state : CallState) (ch : Channel) (r : Request) → refusal role flow (entered state ch) r ≡ None → had_call state ≡ true
+request_call : (role : Role) (flow : Flow) (state : ChannelState) (ch : Channel) (r : Request) → refusal role flow (entered state ch) r ≡ None → had_call state ≡ true
 request_call role flow Ready ch r h = absurd (no_call (refusal role flow (entered Ready ch) r) (ready_refused role flow ch r) h)
 request_call role flow OwnClear ch r h = absurd (no_call (refusal role flow (entered OwnClear ch) r) (clear_refused role flow ch r) h)
 request_call role flow OwnWaiting ch r h = refl

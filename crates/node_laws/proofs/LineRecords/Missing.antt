@@ -11,19 +11,19 @@ use Rattle.data_transfer.specs.Packets.{Datum}
 use Rattle.packet_channel.specs.Channel.{Channel}
 use Rattle.packet_layer.specs.Layer.{channel_of}
 use Rattle.packet_laws.specs.History.{Epoch}
-use Rattle.packet_laws.specs.Law.{epoch_now}
-use Rattle.node_laws.specs.Lines.Line.{Line}
-use Rattle.node_laws.specs.Lines.Rest.{AreAtRest, HasAll}
+use Rattle.packet_laws.specs.LayerLineLaw.{epoch_now}
+use Rattle.node_laws.specs.Lines.NodeLine.{Line}
+use Rattle.node_laws.specs.Lines.LineRest.{AreAtRest, HasAll}
 use Rattle.node_laws.proofs.Lines.Resting.{nothing_missing}
 use Rattle.call_records.specs.Records.{RecordValue, PairValue}
 use Rattle.call_records.specs.Book.{Book, packet_of, slot_at}
 use Rattle.record_laws.specs.Books.Told.{World, after_all}
 use Rattle.record_laws.specs.Books.Headline.{has_call}
 use Rattle.record_laws.specs.Books.Open.{HasLast, IsInEpoch, ShareChannel}
-use Rattle.record_laws.specs.Books.Rest.{TookAll, NothingMissing}
+use Rattle.record_laws.specs.Books.BookRest.{TookAll, NothingMissing}
 use Rattle.record_laws.proofs.Books.OpenPairs.{holds_there, opened}
 use Rattle.node_laws.specs.LineRecords.Kept.{Setting, Kept, beginning, end_at}
-use Rattle.node_laws.specs.LineRecords.Rest.{RestLaw}
+use Rattle.node_laws.specs.LineRecords.LineRecordsRest.{RestLaw}
 use Rattle.node_laws.proofs.LineRecords.LineLaw.{present_kept}
 
 -- what the one end sent and the other one took in an epoch, in their records

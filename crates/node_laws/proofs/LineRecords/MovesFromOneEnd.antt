@@ -4,9 +4,9 @@ use Rattle.std.proofs.Common.{refl, sym, ap, subst, ◌∙◌}
 use Rattle.link_timers.specs.declared.role.Role.{Role}
 use Rattle.link_timers.specs.declared.role.Role.TheVariants.{Dte, Dce}
 use Rattle.pad_editing.specs.Edited.{Step}
-use Rattle.packet_laws.specs.Line as layers
-use Rattle.packet_laws.specs.Line.{Event, turned, happens}
-use Rattle.packet_laws.specs.Line.Happening.{Here, There}
+use Rattle.packet_laws.specs.LayerLine as layers
+use Rattle.packet_laws.specs.LayerLine.{Event, turned, happens}
+use Rattle.packet_laws.specs.LayerLine.Happening.{Here, There}
 use Rattle.node_laws.specs.Lines.Events.{after_here}
 use Rattle.call_records.specs.Book.{Book, edits}
 use Rattle.record_laws.specs.Books.Told.{World, Move, written, top_after, after_move, after_all, InOrder, IsAllowed, AreAllowed}

@@ -17,8 +17,8 @@ use Rattle.data_transfer.specs.Packets.Received.{Whole, Unknown, Faulty}
 use Rattle.data_transfer.specs.Packets.Note.{Incoming, Connected, Closed, WasReset, InterruptConfirmed, Covered}
 use Rattle.data_transfer.specs.Traffic.{Heard, hears}
 use Rattle.data_transfer.specs.Traffic.Heard.{Keeps, Confirms, Wrong}
-use Rattle.packet_channel.specs.Channel.{CallState, Channel, Step, after_heard, covered_note, in_flow_ready, in_own_reset, in_ready, collision_notes, in_own_waiting, in_far_waiting, in_collision, in_own_clear, received_in, unreadable_in, clear_error, unreadable, received as channel_received}
-use Rattle.packet_channel.specs.Channel.CallState.{Ready, OwnWaiting, FarWaiting, Transfer, Collision, OwnClear}
+use Rattle.packet_channel.specs.Channel.{ChannelState, Channel, Step, after_heard, covered_note, in_flow_ready, in_own_reset, in_ready, collision_notes, in_own_waiting, in_far_waiting, in_collision, in_own_clear, received_in, unreadable_in, clear_error, unreadable, received as channel_received}
+use Rattle.packet_channel.specs.Channel.ChannelState.{Ready, OwnWaiting, FarWaiting, Transfer, Collision, OwnClear}
 use Rattle.data_transfer.specs.Octets.{heard}
 use Rattle.packet_layer.specs.Events.{after_hearing, on_octets, timer_named, on_named}
 use Rattle.packet_layer.specs.Layer.{Phase, Layer, Timer, had_call, closing_notes, unread, link_up, link_down, restart_packet, on_found, on_channel, channel_of, packet_in, runs, expired}
@@ -147,7 +147,7 @@ either_one : (v : Bool) (a b : Step) → AtMostOne a.notes → AtMostOne b.notes
 either_one true a b g h = g
 either_one false a b g h = h
 
-received_one : (s : CallState) (role : Role) (flow : Flow) (c : ℕ) (ch : Channel) (body : Body) → AtMostOne (received_in s role flow c ch body).notes
+received_one : (s : ChannelState) (role : Role) (flow : Flow) (c : ℕ) (ch : Channel) (body : Body) → AtMostOne (received_in s role flow c ch body).notes
 received_one Ready role flow c ch body = ready_one role c ch body
 received_one OwnWaiting role flow c ch body = own_one role c ch body
 received_one FarWaiting role flow c ch body = far_one role c ch body
@@ -156,7 +156,7 @@ received_one Transfer role flow c ch body =
 received_one Collision role flow c ch body = collision_one role c ch body
 received_one OwnClear role flow c ch body = clear_one ch body
 
-unreadable_one : (s : CallState) (role : Role) (c : ℕ) (unknown : Bool) (ch : Channel) → AtMostOne (unreadable_in s role c unknown ch).notes
+unreadable_one : (s : ChannelState) (role : Role) (c : ℕ) (unknown : Bool) (ch : Channel) → AtMostOne (unreadable_in s role c unknown ch).notes
 unreadable_one Ready role c unknown ch = omega arith
 unreadable_one OwnWaiting role c unknown ch = omega arith
 unreadable_one FarWaiting role c unknown ch = omega arith

@@ -6,10 +6,10 @@ use Rattle.link_timers.specs.declared.role.Role.TheVariants.{Dte, Dce}
 use Rattle.link_timers.specs.Role.{other_of}
 use Rattle.lapb.specs.Machine.{Octets}
 use Rattle.lapb.specs.World as links
-use Rattle.packet_laws.specs.Line as layers
-use Rattle.packet_laws.specs.Line.{turned}
+use Rattle.packet_laws.specs.LayerLine as layers
+use Rattle.packet_laws.specs.LayerLine.{turned}
 use Rattle.packet_end.specs.PacketEnd.{PacketEnd}
-use Rattle.node_laws.specs.Lines.Line.{Line}
+use Rattle.node_laws.specs.Lines.NodeLine.{Line}
 use Rattle.node_laws.specs.Lines.Joint.{Joint, JointAt, session_of}
 use Rattle.node_laws.proofs.Lines.Holding.{turned_joint}
 use Rattle.call_records.specs.Book.{Book}

@@ -10,16 +10,16 @@ use Rattle.data_transfer.specs.Packets.Body.{Call, Accepted, Clear, ClearConfirm
 use Rattle.data_transfer.specs.Packets.Received.{Whole}
 use Rattle.data_transfer.specs.Traffic.{Heard, Taken, hears, says, front}
 use Rattle.data_transfer.specs.Traffic.Heard.{Keeps, Confirms, Wrong}
-use Rattle.packet_channel.specs.Channel.{CallState, Channel, Step, Request, Refusal, closed_channel, entered, in_transfer, has_flow, refused_if, refusal, carried_out, unless, requested, clear_error, after_heard, in_flow_ready, in_own_reset, in_ready, in_own_waiting, in_far_waiting, in_collision, in_own_clear, received_in, received}
-use Rattle.packet_channel.specs.Channel.CallState.{Ready, OwnWaiting, FarWaiting, Transfer, Collision, OwnClear}
+use Rattle.packet_channel.specs.Channel.{ChannelState, Channel, Step, Request, Refusal, closed_channel, entered, in_transfer, has_flow, refused_if, refusal, carried_out, unless, requested, clear_error, after_heard, in_flow_ready, in_own_reset, in_ready, in_own_waiting, in_far_waiting, in_collision, in_own_clear, received_in, received}
+use Rattle.packet_channel.specs.Channel.ChannelState.{Ready, OwnWaiting, FarWaiting, Transfer, Collision, OwnClear}
 use Rattle.packet_channel.specs.Channel.Request.{Accept, Clearing, Resetting, Sending, Interrupting, Stopping, Taking, Releasing, Confirming}
 use Rattle.packet_layer.specs.Layer.{Phase, Layer, Timer, with_owed, front_at, Next, ChannelNext, nth_channel, channel_of, with_nth, standing_channels, made, on_found, on_channel, restart_packet, on_packet, runs, expired, on_timer, next_owed, next_of, next_number, serve_found, serve, next_restart, next_in, channel_given, placing, placed_on, call, request, unread}
 use Rattle.packet_layer.specs.Layer.Phase.{NoSession, OwnRestart, PacketReady}
 use Rattle.packet_layer.specs.Layer.Timer.{RestartTimer, CallTimer, ResetTimer, ClearTimer}
 use Rattle.packet_laws.specs.Readable.{Every}
-use Rattle.packet_laws.specs.Line.{End, Line, Event, happens, turned, may_begin, begun, offers, accepts, arrives_in, next_of_session, start_line}
-use Rattle.packet_laws.specs.Line.Event.{Up, Down, Calls, Requests, Expires, Offers, Arrives}
-use Rattle.packet_laws.specs.Line.Happening.{Here, There}
+use Rattle.packet_laws.specs.LayerLine.{End, Line, Event, happens, turned, may_begin, begun, offers, accepts, arrives_in, next_of_session, start_line}
+use Rattle.packet_laws.specs.LayerLine.Event.{Up, Down, Calls, Requests, Expires, Offers, Arrives}
+use Rattle.packet_laws.specs.LayerLine.Happening.{Here, There}
 use Rattle.record_laws.specs.Books.Told.{World, Move, after_move, after_all}
 use Rattle.record_laws.specs.Books.Told.Move.{Happens, Edits}
 use Rattle.record_laws.proofs.Books.Layers.{either_way, free_is}
@@ -90,7 +90,7 @@ clear_waits ch (Clear cause diagnostic) h = λ e. h refl
 clear_waits ch ClearConfirmation h = λ e. h refl
 clear_waits ch _ h = h
 
-received_waits : (s : CallState) (role : Role) (flow : Flow) (c : ℕ) (ch : Channel) (body : Body) → WaitsInTransfer (entered s ch) → WaitsInTransfer (received_in s role flow c (entered s ch) body).channel
+received_waits : (s : ChannelState) (role : Role) (flow : Flow) (c : ℕ) (ch : Channel) (body : Body) → WaitsInTransfer (entered s ch) → WaitsInTransfer (received_in s role flow c (entered s ch) body).channel
 received_waits Ready role flow c ch body h = ready_waits role c ch body h
 received_waits OwnWaiting role flow c ch body h = own_waits role c ch body h
 received_waits FarWaiting role flow c ch body h = far_waits role c (entered FarWaiting ch) body

@@ -6,19 +6,19 @@ use Rattle.link_timers.specs.declared.role.Role.TheVariants.{Dte, Dce}
 use Rattle.link_timers.specs.declared.timers.TimerId.{TimerId}
 use Rattle.link_timers.specs.Role.{other_of}
 use Rattle.lapb.specs.Machine.{Octets, can_offer}
-use Rattle.lapb.specs.Line.{chosen}
+use Rattle.lapb.specs.LinkLine.{chosen}
 use Rattle.data_transfer.specs.Packets.{CallParts, Note}
 use Rattle.packet_channel.specs.Channel.{Request}
 use Rattle.packet_layer.specs.Layer.{channel_given, link_down, next_packet}
 use Rattle.packet_laws.specs.Readable.{CanBePlaced}
 use Rattle.packet_end.specs.PacketEnd as end
 use Rattle.packet_end.specs.PacketEnd.{PacketEnd, begun, received, after_timer, relinked, finished, called, asked, offered, all_offered, with_next}
-use Rattle.node_laws.specs.Lines.Line.{Line, RelinksIfDue, Offers, Settles, does}
+use Rattle.node_laws.specs.Lines.NodeLine.{Line, RelinksIfDue, Offers, Settles, does}
 use Rattle.node_laws.proofs.Lines.Finishing.{finished_is}
 use Rattle.call_records.specs.Book.{Book, all_told}
 use Rattle.record_laws.specs.Books.Told.{placed_on}
 use Rattle.node_laws.specs.LineRecords.Kept.{Setting, Kept, end_at, coming_to}
-use Rattle.node_laws.specs.LineRecords.Clauses.{requested_at}
+use Rattle.node_laws.specs.LineRecords.LineRecordClauses.{requested_at}
 use Rattle.node_laws.specs.LineRecords.Happens.{sent, with_event, with_restart, FrameLaw, ExpiryLaw, RelinkLaw, RestartedLaw, CalledLaw, asked_all, requested_all, RequestedLaw}
 use Rattle.node_laws.proofs.LineRecords.ActEvents.{told_append}
 use Rattle.node_laws.proofs.LineRecords.Views.{KeptAt, seen, unseen}

@@ -12,7 +12,7 @@ use Rattle.lapb.specs.Machine as link
 use Rattle.lapb.specs.Machine.{Octets, Link}
 use Rattle.lapb.specs.World.{World}
 use Rattle.lapb.specs.Octets as link_octets
-use Rattle.lapb.specs.Line.{chosen}
+use Rattle.lapb.specs.LinkLine.{chosen}
 use Rattle.lapb.proofs.Rising.{tells_on_t1, plain_on_t1}
 use Rattle.line_end.specs.End.{End, did, without_frames, untouched}
 use Rattle.line_end.specs.End as line
@@ -20,14 +20,14 @@ use Rattle.data_transfer.specs.Packets.{CallParts, Note}
 use Rattle.packet_channel.specs.Channel.{Request}
 use Rattle.packet_layer.specs.Layer.{Layer}
 use Rattle.packet_layer.specs.Events.{timer_named}
-use Rattle.packet_laws.specs.Line as layers
-use Rattle.packet_laws.specs.Line.{Event}
+use Rattle.packet_laws.specs.LayerLine as layers
+use Rattle.packet_laws.specs.LayerLine.{Event}
 use Rattle.packet_laws.specs.Readable.{IsReadable, CanBePlaced}
 use Rattle.packet_laws.proofs.Readable.{readable_link_down}
 use Rattle.packet_end.specs.Params.{info_of}
 use Rattle.packet_end.specs.PacketEnd as end
 use Rattle.packet_end.specs.PacketEnd.{PacketEnd, gathered, runs_at}
-use Rattle.node_laws.specs.Lines.Line.{Begins, Hears, Expires, Relinks, RelinksIfDue, Restarts, Calls, Requests, Settles, Elapses, Sends}
+use Rattle.node_laws.specs.Lines.NodeLine.{Begins, Hears, Expires, Relinks, RelinksIfDue, Restarts, Calls, Requests, Settles, Elapses, Sends}
 use Rattle.node_laws.specs.Lines.Events.{frame_events, expiry_events, timer_events, after_here, notes_of}
 use Rattle.node_laws.specs.Lines.Joint.{Side, side, session_of, coming_session, Follows, JointAt}
 use Rattle.node_laws.specs.Lines.Steps.{session_after, Rise, Step}

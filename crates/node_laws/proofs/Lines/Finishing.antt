@@ -4,7 +4,7 @@ use Rattle.std.proofs.Common.{refl, sym}
 use Rattle.lapb.specs.Machine.{Octets}
 use Rattle.line_end.specs.End.{without_frames}
 use Rattle.packet_end.specs.PacketEnd.{PacketEnd, finished}
-use Rattle.node_laws.specs.Lines.Line.{RelinksIfDue, Offers, Settles, does}
+use Rattle.node_laws.specs.Lines.NodeLine.{RelinksIfDue, Offers, Settles, does}
 
 pub finished_is : (coming : List Octets) (e : PacketEnd) → finished e ≡ does Settles coming (does Offers coming (does RelinksIfDue coming e))
 unfolding finished

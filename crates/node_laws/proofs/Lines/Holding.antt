@@ -15,19 +15,19 @@ use Rattle.data_transfer.proofs.Windows.{window_below}
 use Rattle.line_end.specs.End.{untouched}
 use Rattle.line_end.specs.End as line
 use Rattle.packet_layer.specs.Layer as machine
-use Rattle.packet_laws.specs.Line as layers
-use Rattle.packet_laws.specs.Line.{Happening, start_line, turned}
-use Rattle.packet_laws.specs.Line.Happening.{Here, There}
+use Rattle.packet_laws.specs.LayerLine as layers
+use Rattle.packet_laws.specs.LayerLine.{Happening, start_line, turned}
+use Rattle.packet_laws.specs.LayerLine.Happening.{Here, There}
 use Rattle.packet_laws.proofs.Line.LineHolds.{line_holds}
 use Rattle.packet_laws.proofs.Readable.{readable_made}
 use Rattle.packet_end.specs.PacketEnd.{PacketEnd}
 use Rattle.packet_end.specs.Params.{info_of}
-use Rattle.node_laws.specs.Lines.Line.{Line, Act, Begins, Hears, Expires, Relinks, RelinksIfDue, Restarts, Calls, Requests, Offers, Settles, Elapses, Sends, Event, At, Loses, happens, after, made}
+use Rattle.node_laws.specs.Lines.NodeLine.{Line, Act, Begins, Hears, Expires, Relinks, RelinksIfDue, Restarts, Calls, Requests, Offers, Settles, Elapses, Sends, Event, At, Loses, happens, after, made}
 use Rattle.node_laws.specs.Lines.Events.{after_here}
 use Rattle.node_laws.specs.Lines.Fit.{IsFit, IsFitEvent, AreFit}
 use Rattle.node_laws.specs.Lines.Joint.{Side, side, session_of, Follows, JointAt, Joint, Leads}
 use Rattle.node_laws.specs.Lines.Steps.{Step, events_at}
-use Rattle.node_laws.specs.Lines.Law.{LineEndsLaw}
+use Rattle.node_laws.specs.Lines.LineLaw.{LineEndsLaw}
 use Rattle.node_laws.proofs.Lines.Links.{Goes, same_info, goes_relink, goes_lose}
 use Rattle.node_laws.proofs.Lines.Acts.{did_goes, step_begins, step_hears, step_expires, step_relinks, step_relinks_if_due, step_restarts, step_calls, step_requests, step_settles, step_elapses, step_sends}
 use Rattle.node_laws.proofs.Lines.Offering.{step_offers}

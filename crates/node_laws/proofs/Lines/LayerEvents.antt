@@ -15,7 +15,7 @@ use Rattle.data_transfer.specs.Octets.{heard}
 use Rattle.packet_layer.specs.Events.{on_octets, after_hearing, on_named}
 use Rattle.packet_layer.specs.Layer.{Layer, Timer, unread, link_up, link_down, on_packet, on_timer, call, request, channel_given}
 use Rattle.packet_laws.specs.History.{call_history, request_history, timer_history}
-use Rattle.packet_laws.specs.Line.{Line, Event, happens, begun, next_of_session}
+use Rattle.packet_laws.specs.LayerLine.{Line, Event, happens, begun, next_of_session}
 use Rattle.packet_laws.specs.Readable.{IsReadable, CanBePlaced}
 use Rattle.packet_laws.proofs.Readable.{readable_link_up, readable_link_down, readable_on_octets, readable_on_timer, readable_call, readable_request}
 use Rattle.packet_end.specs.PacketEnd.{PacketEnd, gathered, heeded, after_packet, called, asked}

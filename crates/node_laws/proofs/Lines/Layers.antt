@@ -12,8 +12,8 @@ use Rattle.packet_layer.specs.Events.{on_octets, after_hearing}
 use Rattle.packet_channel.specs.Channel.{Request}
 use Rattle.packet_laws.specs.History.{History}
 use Rattle.packet_layer.specs.Layer.{Layer, Timer, unread, link_up, link_down, on_packet, on_timer, call, request, next_packet}
-use Rattle.packet_laws.specs.Line.{End, Line, begun, offers, accepts, arrives_in, handed_over, next_of_session, happens, with_layer, told}
-use Rattle.packet_laws.specs.Line.Event.{Up, Offers, Arrives}
+use Rattle.packet_laws.specs.LayerLine.{End, Line, begun, offers, accepts, arrives_in, handed_over, next_of_session, happens, with_layer, told}
+use Rattle.packet_laws.specs.LayerLine.Event.{Up, Offers, Arrives}
 use Rattle.node_laws.specs.Lines.Joint.{Side, AreHeard, Follows}
 use Rattle.node_laws.proofs.Lines.Flows.{octets_flow, next_flow}
 use Rattle.node_laws.proofs.Lines.Unread.{request_unread, call_unread, timer_unread, next_unread}

@@ -14,7 +14,7 @@ use Rattle.lapb.specs.Octets.{on_octets}
 use Rattle.lapb.specs.Out.{with_frames}
 use Rattle.lapb.specs.World.{Sent, World, Offer, Deliver, Lose, Expire, Relink, Settle, Restart, IsPrefix, happens, dte_does, dce_does, to_dce, logged, emptied, is_sabm, is_up_note, offered}
 use Rattle.lapb.specs.Fits.{AllSpelt, octets_of}
-use Rattle.lapb.specs.Line.{chosen, StandsIn}
+use Rattle.lapb.specs.LinkLine.{chosen, StandsIn}
 use Rattle.lapb.specs.Rising.{AsksInOrder, Tells, IsPlain}
 use Rattle.lapb.proofs.Rising.{tells_on_octets, plain_on_t1, plain_relink, plain_settle, reached_rise, later_at_dte}
 use Rattle.lapb.proofs.Lines.{stands_offer_dte, stands_offer_dce, stands_t1_dte, stands_t1_dce, stands_relink_dte, stands_relink_dce, stands_settle_dte, stands_settle_dce, stands_restart_dte, stands_restart_dce, stands_lose_up, stands_lose_down, stands_frame_dte, stands_frame_dce}

@@ -11,13 +11,13 @@ use Rattle.data_transfer.specs.Packets.Received.{Whole}
 use Rattle.data_transfer.specs.Octets.{heard}
 use Rattle.packet_layer.specs.Layer.{next_packet}
 use Rattle.packet_layer.specs.Events.{written_packet}
-use Rattle.packet_laws.specs.Line as layers
-use Rattle.packet_laws.specs.Line.{Event, happens}
+use Rattle.packet_laws.specs.LayerLine as layers
+use Rattle.packet_laws.specs.LayerLine.{Event, happens}
 use Rattle.packet_laws.proofs.Readable.{readable_next, next_heard, next_short}
 use Rattle.data_transfer.specs.declared.flow.Flow.{Flow}
 use Rattle.packet_end.specs.Params.{info_of}
 use Rattle.packet_end.specs.PacketEnd.{PacketEnd, with_next, offered, all_offered}
-use Rattle.node_laws.specs.Lines.Line.{Offers}
+use Rattle.node_laws.specs.Lines.NodeLine.{Offers}
 use Rattle.node_laws.specs.Lines.Events.{offer_events, after_here, cleared, notes_of}
 use Rattle.node_laws.specs.Lines.Joint.{Side, side, session_of, session_now, Follows, JointAt}
 use Rattle.node_laws.specs.Lines.Steps.{session_after, Rise, Step}

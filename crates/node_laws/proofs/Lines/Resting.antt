@@ -16,9 +16,9 @@ use Rattle.data_transfer.specs.Traffic.{Traffic, rests, flow_told}
 use Rattle.packet_channel.specs.Channel.{Channel, channel_rests}
 use Rattle.packet_layer.specs.Layer.{Layer, channel_of, nth_channel}
 use Rattle.packet_laws.specs.History.{Epoch}
-use Rattle.packet_laws.specs.Law.{Quiet, AtRest, NothingMissing, listed}
+use Rattle.packet_laws.specs.LayerLineLaw.{Quiet, AtRest, NothingMissing, listed}
 use Rattle.node_laws.specs.Lines.Joint.{AreHeard, session_now}
-use Rattle.node_laws.specs.Lines.Rest.{HasAll, RestLaw}
+use Rattle.node_laws.specs.Lines.LineRest.{HasAll, RestLaw}
 
 -- ---- booleans and lists
 

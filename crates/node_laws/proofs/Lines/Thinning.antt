@@ -9,7 +9,7 @@ use Rattle.lapb.specs.Machine.{Octets, Link, Step, on_frame, on_t1, relink, sett
 use Rattle.lapb.specs.World.{Sent, World, Event, Offer, Deliver, Lose, Expire, Relink, Settle, Restart, happens, run, opening, stamped, kept_of, act_after, dte_does, dce_does, dce_enters}
 use Rattle.lapb.specs.Reach.{Reached}
 use Rattle.lapb.specs.Fits.{AllSpelt, octets_of}
-use Rattle.lapb.specs.Line.{chosen, StandsIn}
+use Rattle.lapb.specs.LinkLine.{chosen, StandsIn}
 
 -- without some of the frames on the way
 abbrev pub thin : (up down : List Bool) → World → World

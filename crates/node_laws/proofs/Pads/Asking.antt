@@ -29,10 +29,10 @@ use Rattle.node_laws.proofs.LineRecords.KeptAfterActs.{requests_at, calls_at, ed
 use Rattle.x28_commands.specs.declared.command.Selection.{Selection}
 use Rattle.pad_ports.specs.Notes as notes
 use Rattle.pad_ports.specs.Notes.{ChannelNote}
-use Rattle.pad_ports.specs.Line as line
-use Rattle.pad_ports.specs.Line.{asked, gathered, call_parts}
-use Rattle.pad_ports.specs.declared.line.PadLine.{PadLine}
-use Rattle.line_nodes.specs.PadWriting.{write_of, writes_of}
+use Rattle.pad_ports.specs.PadLine as line
+use Rattle.pad_ports.specs.PadLine.{asked, gathered, call_parts}
+use Rattle.pad_ports.specs.PadLine.{PadLine}
+use Rattle.user_nodes.specs.PadWriting.{write_of, writes_of}
 use Rattle.node_laws.proofs.Pads.Selecting.{IsSelection, may_be_placed}
 
 -- ---- notes that are written, one after the other

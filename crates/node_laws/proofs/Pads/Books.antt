@@ -17,7 +17,7 @@ use Rattle.call_records.specs.Book.{Book, Side, Slot, free_slot, side_of, nth_sl
 use Rattle.call_records.specs.Carried.{carried, unless_refused, placed_on}
 use Rattle.call_records.specs.Closing.{closes_if, closes_present, closed_from, all_closed}
 use Rattle.call_records.specs.Writes.{Write, Write as write, all_sent, let_go, written_by, all_written}
-use Rattle.pad_ports.specs.Line.{datum}
+use Rattle.pad_ports.specs.PadLine.{datum}
 use Rattle.record_laws.specs.Words.{HasTyped}
 use Rattle.node_laws.specs.Pads.Holds.{node_at, HasItsRecords, HasEachOnce, IsLeft, BookHolds}
 use Rattle.node_laws.proofs.Pads.Records.{IsQuiet, taken_quiet, interrupt_taken_quiet, released_quiet, covered_quiet, epoch_quiet, closed_quiet, with_edit, edit_node, edit_has, edit_held, new_has}

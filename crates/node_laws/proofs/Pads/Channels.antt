@@ -8,8 +8,8 @@ use Rattle.data_transfer.specs.Packets.Body.{Call, Accepted, Clear, ClearConfirm
 use Rattle.data_transfer.specs.Packets.Note.{Incoming, Closed}
 use Rattle.data_transfer.specs.Traffic.{Heard, hears}
 use Rattle.data_transfer.specs.Traffic.Heard.{Keeps, Confirms, Wrong}
-use Rattle.packet_channel.specs.Channel.{CallState, Channel, Step, quiet, clear_error, reset_error, far_cleared, after_heard, in_flow_ready, in_own_reset, in_ready, in_own_waiting, in_far_waiting, in_collision, in_own_clear, received_in, received, unreadable_in, unreadable}
-use Rattle.packet_channel.specs.Channel.CallState.{Ready, OwnWaiting, FarWaiting, Transfer, Collision, OwnClear}
+use Rattle.packet_channel.specs.Channel.{ChannelState, Channel, Step, quiet, clear_error, reset_error, far_cleared, after_heard, in_flow_ready, in_own_reset, in_ready, in_own_waiting, in_far_waiting, in_collision, in_own_clear, received_in, received, unreadable_in, unreadable}
+use Rattle.packet_channel.specs.Channel.ChannelState.{Ready, OwnWaiting, FarWaiting, Transfer, Collision, OwnClear}
 use Rattle.packet_layer.specs.Layer.{had_call}
 
 -- ---- notes
@@ -105,7 +105,7 @@ plain_step c ch st p f = record {
 }
 
 same_state : (c : ℕ) (ch : Channel) (st : Step) → st.channel.state ≡ ch.state → IsPlain st.notes → StepTells c ch st
-same_state c ch st e p = plain_step c ch st p (λ h. ap (λ (s : CallState). had_call s) e ∙ h)
+same_state c ch st e p = plain_step c ch st p (λ h. ap (λ (s : ChannelState). had_call s) e ∙ h)
 
 quiet_tells : (c : ℕ) (ch : Channel) → StepTells c ch (quiet ch)
 quiet_tells c ch = same_state c ch (quiet ch) refl tt
@@ -219,13 +219,13 @@ transfer_tells : (role : Role) (flow : Flow) (c : ℕ) (ch : Channel) (body : Bo
 transfer_tells role flow c ch body true = own_reset_tells role c ch body
 transfer_tells role flow c ch body false = flow_ready_tells role flow c ch body
 
-received_in_tells : (s : CallState) (role : Role) (flow : Flow) (c : ℕ) (ch : Channel) (body : Body) → ch.state ≡ s → StepTells c ch (received_in s role flow c ch body)
-received_in_tells Ready role flow c ch body e = ready_tells role c ch body (ap (λ (s : CallState). had_call s) e)
+received_in_tells : (s : ChannelState) (role : Role) (flow : Flow) (c : ℕ) (ch : Channel) (body : Body) → ch.state ≡ s → StepTells c ch (received_in s role flow c ch body)
+received_in_tells Ready role flow c ch body e = ready_tells role c ch body (ap (λ (s : ChannelState). had_call s) e)
 received_in_tells OwnWaiting role flow c ch body e = own_waiting_tells role c ch body
 received_in_tells FarWaiting role flow c ch body e = far_waiting_tells role c ch body
 received_in_tells Transfer role flow c ch body e = transfer_tells role flow c ch body ch.resetting
 received_in_tells Collision role flow c ch body e = collision_tells role c ch body
-received_in_tells OwnClear role flow c ch body e = own_clear_tells c ch body (ap (λ (s : CallState). had_call s) e)
+received_in_tells OwnClear role flow c ch body e = own_clear_tells c ch body (ap (λ (s : ChannelState). had_call s) e)
 
 pub received_tells : (role : Role) (flow : Flow) (c : ℕ) (ch : Channel) (body : Body) → StepTells c ch (received role flow c ch body)
 received_tells role flow c ch body = received_in_tells ch.state role flow c ch body refl
@@ -236,8 +236,8 @@ transfer_unreadable : (role : Role) (c d e : ℕ) (ch : Channel) (v : Bool) → 
 transfer_unreadable role c d e ch true = error_tells role c d ch
 transfer_unreadable role c d e ch false = reset_error_tells role c e ch
 
-unreadable_in_tells : (s : CallState) (role : Role) (c : ℕ) (unknown : Bool) (ch : Channel) → ch.state ≡ s → StepTells c ch (unreadable_in s role c unknown ch)
-unreadable_in_tells Ready role c unknown ch e = clear_error_tells role c _ false ch (λ f. ap (λ (s : CallState). had_call s) e)
+unreadable_in_tells : (s : ChannelState) (role : Role) (c : ℕ) (unknown : Bool) (ch : Channel) → ch.state ≡ s → StepTells c ch (unreadable_in s role c unknown ch)
+unreadable_in_tells Ready role c unknown ch e = clear_error_tells role c _ false ch (λ f. ap (λ (s : ChannelState). had_call s) e)
 unreadable_in_tells OwnClear role c unknown ch e = quiet_tells c ch
 unreadable_in_tells Transfer role c unknown ch e = transfer_unreadable role c _ _ ch ch.resetting
 unreadable_in_tells s role c unknown ch e = error_tells role c _ ch

@@ -11,7 +11,7 @@ use Rattle.data_transfer.specs.Packets.{Note}
 use Rattle.packet_end.specs.PacketEnd as end
 use Rattle.packet_end.specs.declared.params.EndParams.{EndParams}
 use Rattle.packet_end.specs.PacketEnd.{PacketEnd, begun, received, after_timer, relinked, finished, runs_at}
-use Rattle.node_laws.specs.Lines.Line.{Line, At, Elapses, Sends, happens, made as ends_made}
+use Rattle.node_laws.specs.Lines.NodeLine.{Line, At, Elapses, Sends, happens, made as ends_made}
 use Rattle.call_records.specs.Book.{Book, all_told}
 use Rattle.node_laws.specs.LineRecords.Kept.{Setting, Kept, end_at, coming_to}
 use Rattle.node_laws.specs.LineRecords.Happens.{sent, with_event, with_restart}
@@ -20,13 +20,13 @@ use Rattle.node_laws.proofs.LineRecords.KeptAfterActs.{begins_at, hears_at, expi
 use Rattle.node_laws.proofs.LineRecords.LineLaw.{like_kept, silent_kept, made_kept}
 use Rattle.node_laws.proofs.LineRecords.WholeEvents.{ends_on, restarted_kept}
 use Rattle.pad_ports.specs.Notes as notes
-use Rattle.pad_ports.specs.Line.{last_incoming}
+use Rattle.pad_ports.specs.PadLine.{last_incoming}
 use Rattle.pad_ports.specs.Ports as port
 use Rattle.pad_ports.specs.Ports.{AtLine}
 use Rattle.x25_pad.specs.Pad as pad
 use Rattle.x25_pad.specs.Pad.{PadState}
 use Rattle.node_laws.specs.Pads.Standing.{StandsAt, KeepsWith, KeepsBy, drained}
-use Rattle.node_laws.specs.Pads.Clauses.{KeyLaw, BreakLaw, IdleLaw, PrintLaw, LeavingLaw, ArrivalLaw, FrameLaw, TimerLaw, RelinkLaw, RestartLaw, TimeLaw, MakingLaw}
+use Rattle.node_laws.specs.Pads.PadClauses.{KeyLaw, BreakLaw, IdleLaw, PrintLaw, LeavingLaw, ArrivalLaw, FrameLaw, TimerLaw, RelinkLaw, RestartLaw, TimeLaw, MakingLaw}
 use Rattle.node_laws.proofs.Pads.Asking.{Runs, noted, noted_append, noted_told, gathered_runs, accepted_runs, cleared_runs}
 use Rattle.node_laws.proofs.Pads.Terminals.{key_runs, idle_runs, break_runs, print_runs, leaving_runs, port_runs}
 

@@ -38,14 +38,14 @@ use Rattle.pad_terminal.specs.declared.answers.Reply.{Reply}
 use Rattle.pad_terminal.specs.declared.answers.Reply.TheVariants as reply
 use Rattle.pad_terminal.specs.declared.answers.TerminalRequest.{TerminalRequest}
 use Rattle.pad_terminal.specs.declared.answers.TerminalRequest.TheVariants as request
-use Rattle.line_nodes.specs.PadWriting.{without_notes}
+use Rattle.user_nodes.specs.PadWriting.{without_notes}
 use Rattle.pad_ports.specs.Notes as notes
 use Rattle.pad_ports.specs.Notes.{ChannelNote, unless_refused}
-use Rattle.pad_ports.specs.Line as line
-use Rattle.pad_ports.specs.Line.{condition, datum}
+use Rattle.pad_ports.specs.PadLine as line
+use Rattle.pad_ports.specs.PadLine.{condition, datum}
 use Rattle.pad_ports.specs.Ports as port
 use Rattle.pad_ports.specs.Ports.{PortState, AtLine}
-use Rattle.pad_ports.specs.declared.line.PadLine.{PadLine}
+use Rattle.pad_ports.specs.PadLine.{PadLine}
 use Rattle.x25_pad.specs.Pad as pad
 use Rattle.x25_pad.specs.Pad.{PadState, acted, at_port}
 use Rattle.x25_pad.specs.Making.{made, IsConfig}

@@ -35,11 +35,11 @@ use Rattle.pad_terminal.specs.declared.answers.TerminalRequest.{TerminalRequest}
 use Rattle.pad_terminal.specs.declared.answers.TerminalRequest.TheVariants as request
 use Rattle.pad_ports.specs.Notes as notes
 use Rattle.pad_ports.specs.Notes.{ChannelNote, unless_refused}
-use Rattle.pad_ports.specs.Line as line
-use Rattle.pad_ports.specs.Line.{condition}
+use Rattle.pad_ports.specs.PadLine as line
+use Rattle.pad_ports.specs.PadLine.{condition}
 use Rattle.pad_ports.specs.Ports as port
 use Rattle.pad_ports.specs.Ports.{AtLine}
-use Rattle.pad_ports.specs.declared.line.PadLine.{PadLine}
+use Rattle.pad_ports.specs.PadLine.{PadLine}
 use Rattle.node_laws.specs.Pads.Occasions.{Occasion, HadBreak, HadCommand, indication, asks_interrupt, all_interrupts}
 use Rattle.node_laws.specs.Pads.Happening.{by_key, by_line, by_break, by_taking, by_printing, meets, is_pending, asks_for_interrupt}
 use Rattle.node_laws.proofs.Pads.QualifiedPackets.{Octets, interrupt_in, all_in, IsKind, IsSaidBy, nothing_noted, either, tells_silent, break_answer_by, one_more, silent_more, placed_says, clears_says, resets_says, edits_say}

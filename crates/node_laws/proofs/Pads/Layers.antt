@@ -11,8 +11,8 @@ use Rattle.data_transfer.specs.Packets.Body.{Restart, RestartConfirmation}
 use Rattle.data_transfer.specs.Packets.Note.{Closed}
 use Rattle.data_transfer.specs.Packets.Received.{Whole, Unknown, Faulty}
 use Rattle.data_transfer.specs.Traffic.{says}
-use Rattle.packet_channel.specs.Channel.{CallState, Channel, Step, Request, Refusal, closed_channel, moved, carried_out, unless, requested, refusal, has_flow, received, unreadable}
-use Rattle.packet_channel.specs.Channel.CallState.{Ready, OwnWaiting, FarWaiting, Transfer, Collision, OwnClear}
+use Rattle.packet_channel.specs.Channel.{ChannelState, Channel, Step, Request, Refusal, closed_channel, moved, carried_out, unless, requested, refusal, has_flow, received, unreadable}
+use Rattle.packet_channel.specs.Channel.ChannelState.{Ready, OwnWaiting, FarWaiting, Transfer, Collision, OwnClear}
 use Rattle.packet_channel.specs.Channel.Request.{Accept, Clearing, Resetting, Sending, Interrupting, Stopping, Taking, Releasing, Confirming}
 use Rattle.packet_layer.specs.Layer.{Phase, Layer, Timer, Next, ChannelNext, nth_channel, with_nth, channel_of, owing, after_step, unread, link_up, link_down, restart_packet, on_found, on_channel, on_received, runs, expired, next_owed, next_of, next_number, serve_found, serve, next_restart, next_in, next_packet, request, call, placed_on, placing, channel_given, free_channel, lowest_free, highest_free, raised, either_of, itself_if, is_free, is_ready, had_call, closing_notes}
 use Rattle.packet_layer.specs.Layer.Phase.{NoSession, OwnRestart, PacketReady}
@@ -306,7 +306,7 @@ given_is_free PacketReady l c e = channel_is_free l.role l.channels c e
 given_is_free OwnRestart l c e = absurd (none-some c e)
 given_is_free NoSession l c e = absurd (none-some c e)
 
-ready_none : (s : CallState) (v : Bool) → (is_ready s && v) ≡ true → had_call s ≡ false
+ready_none : (s : ChannelState) (v : Bool) → (is_ready s && v) ≡ true → had_call s ≡ false
 ready_none Ready v h = refl
 ready_none OwnClear v h = refl
 ready_none OwnWaiting v h = absurd (true≢false (sym h))
@@ -377,7 +377,7 @@ put_same : (l : Layer) (c last : ℕ) (ch x : Channel) → channel_of l c ≡ So
 put_same l c last ch x e s = record { calls = at; notes = refl }
   where
     here : has_call (nth_channel (with_nth l.channels c x) c) ≡ call_at l c
-    here = ap has_call (nth_same l.channels c ch x e) ∙ ap (λ (z : CallState). had_call z) s ∙ sym (ap has_call e)
+    here = ap has_call (nth_same l.channels c ch x e) ∙ ap (λ (z : ChannelState). had_call z) s ∙ sym (ap has_call e)
 
     at : (d : ℕ) → has_call (nth_channel (with_nth l.channels c x) d) ≡ call_at l d
     at d =

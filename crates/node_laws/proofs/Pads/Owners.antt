@@ -35,14 +35,14 @@ use Rattle.pad_terminal.specs.declared.answers.TerminalRequest.{TerminalRequest}
 use Rattle.pad_terminal.specs.declared.answers.TerminalRequest.TheVariants as request
 use Rattle.pad_ports.specs.Notes as notes
 use Rattle.pad_ports.specs.Notes.{ChannelNote}
-use Rattle.pad_ports.specs.Line as line
-use Rattle.pad_ports.specs.Line.{condition, learnt_of, all_learnt, last_incoming}
+use Rattle.pad_ports.specs.PadLine as line
+use Rattle.pad_ports.specs.PadLine.{condition, learnt_of, all_learnt, last_incoming}
 use Rattle.pad_ports.specs.Ports as port
 use Rattle.pad_ports.specs.Ports.{PortState, AtLine, has_channel}
-use Rattle.pad_ports.specs.declared.line.PadLine.{PadLine}
+use Rattle.pad_ports.specs.PadLine.{PadLine}
 use Rattle.x25_pad.specs.Pad as pad
 use Rattle.x25_pad.specs.Pad.{PadState, acted, at_port, holder, first_free, all_heard}
-use Rattle.line_nodes.specs.PadWriting.{write_of, parts_to}
+use Rattle.user_nodes.specs.PadWriting.{write_of, parts_to}
 use Rattle.node_laws.specs.Pads.Holds.{IsOn}
 use Rattle.node_laws.specs.Pads.Happening.{PadEvent, HasKey, HasBreak, HasIdleTime, HasPrinting, HasLeaving, HasArrival, HasFrame, HasExpiry, HasRelink, HasRestart, HasTicks, after_event, writes_after}
 use Rattle.node_laws.proofs.Pads.Asking.{noted}

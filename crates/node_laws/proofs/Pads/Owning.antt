@@ -9,7 +9,7 @@ use Rattle.packet_layer.specs.Layer.{front_on}
 use Rattle.pad_terminal.specs.Terminal.{may_show}
 use Rattle.pad_ports.specs.Ports as port
 use Rattle.pad_ports.specs.Ports.{PortState, AtLine, has_channel, text_taken}
-use Rattle.pad_ports.specs.declared.line.PadLine.{PadLine}
+use Rattle.pad_ports.specs.PadLine.{PadLine}
 use Rattle.x25_pad.specs.Pad as pad
 use Rattle.x25_pad.specs.Pad.{PadState, acted, changed_at, holder, print_taken}
 use Rattle.node_laws.specs.Pads.Own.{OwnPacketLaw, OwnTextLaw, OthersStayLaw, LearnsOwnLaw}

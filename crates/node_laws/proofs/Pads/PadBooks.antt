@@ -18,15 +18,15 @@ use Rattle.node_laws.proofs.LineRecords.WholeEvents.{all_offered_notes}
 use Rattle.pad_terminal.specs.Terminal.{is_present}
 use Rattle.pad_ports.specs.Notes as notes
 use Rattle.pad_ports.specs.Notes.{ChannelNote}
-use Rattle.pad_ports.specs.Line as line
-use Rattle.pad_ports.specs.Line.{all_learnt, last_incoming}
+use Rattle.pad_ports.specs.PadLine as line
+use Rattle.pad_ports.specs.PadLine.{all_learnt, last_incoming}
 use Rattle.pad_ports.specs.Ports as port
 use Rattle.pad_ports.specs.Ports.{PortState, AtLine, has_channel}
-use Rattle.pad_ports.specs.declared.line.PadLine.{PadLine}
+use Rattle.pad_ports.specs.PadLine.{PadLine}
 use Rattle.x25_pad.specs.Pad as pad
 use Rattle.x25_pad.specs.Pad.{PadState, all_heard, changed_at, at_port, acted}
 use Rattle.node_laws.specs.Pads.Holds.{BookHolds, IsPort, IsOn, TextOf, PadTypes}
-use Rattle.line_nodes.specs.PadWriting.{writes_of}
+use Rattle.user_nodes.specs.PadWriting.{writes_of}
 use Rattle.call_records.specs.Writes.{Write, all_written}
 use Rattle.call_records.specs.Writes.Write.{AllClosed}
 use Rattle.link_timers.specs.Role.{other_of}

@@ -14,7 +14,7 @@ use Rattle.record_laws.proofs.Books.Basics.{get_set}
 use Rattle.call_records.specs.Records.{with_epoch, with_covered}
 use Rattle.call_records.specs.Book.{Book, all_told, told, closes, renews, covers}
 use Rattle.pad_terminal.specs.Calls as calls
-use Rattle.pad_ports.specs.Line.{learnt_of, all_learnt, last_incoming}
+use Rattle.pad_ports.specs.PadLine.{learnt_of, all_learnt, last_incoming}
 use Rattle.pad_ports.specs.Ports as port
 use Rattle.pad_ports.specs.Ports.{PortState, has_channel}
 use Rattle.x25_pad.specs.Pad.{changed_at, holder, one_learnt, all_heard}

@@ -20,7 +20,7 @@ use Rattle.link_timers.specs.declared.role.Role.{Role}
 use Rattle.call_records.specs.Book.{Book, side_of, slot_at}
 use Rattle.call_records.specs.Closing.{closes_if, closes_present, closed_from}
 use Rattle.call_records.specs.Writes.{all_written, written_by}
-use Rattle.line_nodes.specs.PadWriting.{write_of}
+use Rattle.user_nodes.specs.PadWriting.{write_of}
 use Rattle.pad_editing.specs.Edited.{Step, key, idle}
 use Rattle.x29_messages.specs.MessageForm.{octets_of}
 use Rattle.x29_messages.specs.declared.message.Message.{Message}
@@ -38,11 +38,11 @@ use Rattle.pad_terminal.specs.declared.answers.TerminalRequest.{TerminalRequest}
 use Rattle.pad_terminal.specs.declared.answers.TerminalRequest.TheVariants as request
 use Rattle.pad_ports.specs.Notes as notes
 use Rattle.pad_ports.specs.Notes.{ChannelNote}
-use Rattle.pad_ports.specs.Line as line
-use Rattle.pad_ports.specs.Line.{all_learnt, learnt_of, last_incoming, about}
+use Rattle.pad_ports.specs.PadLine as line
+use Rattle.pad_ports.specs.PadLine.{all_learnt, learnt_of, last_incoming, about}
 use Rattle.pad_ports.specs.Ports as port
 use Rattle.pad_ports.specs.Ports.{PortState, AtLine, has_channel, new_port}
-use Rattle.pad_ports.specs.declared.line.PadLine.{PadLine}
+use Rattle.pad_ports.specs.PadLine.{PadLine}
 use Rattle.x25_pad.specs.Pad as pad
 use Rattle.x25_pad.specs.Pad.{PadState, all_heard, changed_at, at_port, acted, holder, print_taken, print_text, key_taken, break_taken}
 use Rattle.node_laws.specs.Pads.Holds.{IsOn}

@@ -8,7 +8,7 @@ use Rattle.data_transfer.specs.declared.flow.Flow.{Flow}
 use Rattle.packet_channel.specs.Channel.{Channel, Request, Refusal, Step as ChannelStep, unless, refusal, refused_if, carried_out, requested, in_transfer}
 use Rattle.packet_channel.specs.Channel.Request.{Interrupting, Taking, Releasing, Sending}
 use Rattle.packet_layer.specs.Layer.{Layer, channel_of, on_found, room, room_at, request, request_refusal, refusal_at, owing}
-use Rattle.pad_ports.specs.Line.{datum}
+use Rattle.pad_ports.specs.PadLine.{datum}
 use Rattle.node_laws.proofs.Pads.Layers.{nth_same}
 
 -- so many places are free as before

@@ -10,7 +10,7 @@ use Rattle.call_records.specs.Records.{RecordValue, sent_epochs, with_step, with
 use Rattle.call_records.specs.Book.{packet_of}
 use Rattle.x29_messages.specs.MessageForm.{octets_of}
 use Rattle.x29_messages.specs.declared.message.Message.{Message}
-use Rattle.pad_ports.specs.Line.{datum}
+use Rattle.pad_ports.specs.PadLine.{datum}
 use Rattle.node_laws.specs.Pads.Sending.{interrupts_of_epochs, qualified_messages, qualified_items}
 use Rattle.record_laws.specs.Words.{items_of_epochs, items_sent, user_messages, HasTyped}
 

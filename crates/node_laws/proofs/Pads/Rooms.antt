@@ -31,11 +31,11 @@ use Rattle.pad_terminal.specs.declared.answers.Reply.{Reply}
 use Rattle.pad_terminal.specs.declared.answers.Reply.TheVariants as reply
 use Rattle.pad_terminal.specs.declared.answers.TerminalRequest.{TerminalRequest}
 use Rattle.pad_terminal.specs.declared.answers.TerminalRequest.TheVariants as request
-use Rattle.line_nodes.specs.PadRoom.{HaveRoom}
+use Rattle.user_nodes.specs.PadRoom.{HaveRoom}
 use Rattle.pad_ports.specs.Notes.{ChannelNote, all_told, unless_refused}
 use Rattle.pad_ports.specs.Notes as notes
-use Rattle.pad_ports.specs.Line as line
-use Rattle.pad_ports.specs.Line.{last_incoming}
+use Rattle.pad_ports.specs.PadLine as line
+use Rattle.pad_ports.specs.PadLine.{last_incoming}
 use Rattle.pad_ports.specs.Ports as port
 use Rattle.pad_ports.specs.Ports.{PortState, AtLine}
 use Rattle.x25_pad.specs.Pad as pad

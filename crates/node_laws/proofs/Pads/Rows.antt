@@ -6,7 +6,7 @@ use Rattle.x3_params.specs.Forwarding.{class_of}
 use Rattle.data_transfer.specs.Flow.{modulo_8}
 use Rattle.packet_end.specs.PacketEnd.{finished, all_offered}
 use Rattle.packet_end.specs.declared.params.EndParams.{EndParams}
-use Rattle.pad_ports.specs.Line.{datum}
+use Rattle.pad_ports.specs.PadLine.{datum}
 use Rattle.pad_ports.specs.Notes.{Edited, Sent}
 use Rattle.pad_ports.specs.Ports as port
 use Rattle.x25_pad.specs.Pad.{PadState, terminal_event, all_heard}

@@ -27,7 +27,7 @@ use Rattle.pad_terminal.specs.Terminal.{TerminalState, has_call}
 use Rattle.pad_terminal.specs.declared.answers.CallCondition.{CallCondition}
 use Rattle.pad_terminal.specs.declared.answers.TerminalRequest.{TerminalRequest}
 use Rattle.pad_terminal.specs.declared.answers.TerminalRequest.TheVariants as request
-use Rattle.pad_ports.specs.Line.{call_parts}
+use Rattle.pad_ports.specs.PadLine.{call_parts}
 
 -- ---- a selection
 

@@ -22,8 +22,8 @@ use Rattle.call_records.specs.Carried.{carried, unless_refused, placed_on}
 use Rattle.call_records.specs.Writes.{Write, Write as write, all_sent, let_go, written_by, all_written}
 use Rattle.pad_ports.specs.Notes as notes
 use Rattle.pad_ports.specs.Notes.{ChannelNote}
-use Rattle.pad_ports.specs.Line.{datum}
-use Rattle.line_nodes.specs.PadWriting.{write_of, parts_to}
+use Rattle.pad_ports.specs.PadLine.{datum}
+use Rattle.user_nodes.specs.PadWriting.{write_of, parts_to}
 use Rattle.node_laws.specs.Pads.Occasions.{Occasion}
 use Rattle.node_laws.specs.Pads.Sending.{interrupts_of_epochs, qualified_items, qualified_messages, qualified_octets, packets_of_epochs, messages_read, HasSaid}
 use Rattle.record_laws.specs.Words.{items_sent}

@@ -34,10 +34,10 @@ use Rattle.pad_terminal.specs.declared.answers.Reply.TheVariants as reply
 use Rattle.pad_terminal.specs.declared.answers.TerminalRequest.{TerminalRequest}
 use Rattle.pad_terminal.specs.declared.answers.TerminalRequest.TheVariants as request
 use Rattle.pad_ports.specs.Notes.{Edited}
-use Rattle.pad_ports.specs.Line as line
+use Rattle.pad_ports.specs.PadLine as line
 use Rattle.pad_ports.specs.Ports as port
 use Rattle.pad_ports.specs.Ports.{PortState, AtLine}
-use Rattle.pad_ports.specs.declared.line.PadLine.{PadLine}
+use Rattle.pad_ports.specs.PadLine.{PadLine}
 use Rattle.x25_pad.specs.Pad.{PadState, at_port, acted}
 use Rattle.node_laws.proofs.Pads.Selecting.{Fits, FitsAny, line_fits}
 use Rattle.node_laws.proofs.Pads.Asking.{Runs, sent_runs, cleared_runs, reset_runs, interrupted_runs, placed_runs, edited_runs, taken_runs}

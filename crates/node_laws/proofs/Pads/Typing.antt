@@ -25,12 +25,12 @@ use Rattle.pad_terminal.specs.declared.answers.TerminalRequest.{TerminalRequest}
 use Rattle.pad_terminal.specs.declared.answers.TerminalRequest.TheVariants as request
 use Rattle.pad_ports.specs.Notes as notes
 use Rattle.pad_ports.specs.Notes.{ChannelNote}
-use Rattle.pad_ports.specs.Line as line
-use Rattle.pad_ports.specs.Line.{asked, call_parts, datum, interrupt_octet}
+use Rattle.pad_ports.specs.PadLine as line
+use Rattle.pad_ports.specs.PadLine.{asked, call_parts, datum, interrupt_octet}
 use Rattle.pad_ports.specs.Ports as port
 use Rattle.pad_ports.specs.Ports.{PortState, AtLine, has_channel}
-use Rattle.pad_ports.specs.declared.line.PadLine.{PadLine}
-use Rattle.line_nodes.specs.PadWriting.{write_of}
+use Rattle.pad_ports.specs.PadLine.{PadLine}
+use Rattle.user_nodes.specs.PadWriting.{write_of}
 use Rattle.node_laws.specs.Pads.Holds.{BookHolds, IsPort}
 use Rattle.node_laws.proofs.Pads.Asking.{noted, noted_append}
 use Rattle.node_laws.proofs.Pads.Records.{epoch_quiet, interrupt_quiet, message_quiet}

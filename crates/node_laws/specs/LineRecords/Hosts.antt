@@ -10,7 +10,7 @@ use Rattle.packet_channel.specs.Channel.{Request}
 use Rattle.packet_layer.specs.Layer.{channel_given, front_on}
 use Rattle.packet_laws.specs.Readable.{CanBePlaced}
 use Rattle.packet_end.specs.PacketEnd.{PacketEnd}
-use Rattle.node_laws.specs.Lines.Line.{Line}
+use Rattle.node_laws.specs.Lines.NodeLine.{Line}
 use Rattle.data_transfer.specs.Cutting.{cut}
 use Rattle.packet_host.specs.Saying.{message, say_refusal}
 use Rattle.packet_host.specs.Host.{after_call, after_request, after_refuse, after_say, after_take, after_expiry}
@@ -18,7 +18,7 @@ use Rattle.packet_host.specs.Host.{refuse_refusal}
 use Rattle.call_records.specs.Book.{Book, sends, closes, takes, releases, all_told}
 use Rattle.record_laws.specs.Books.Told.{unless_refused, placed_on}
 use Rattle.node_laws.specs.LineRecords.Kept.{Setting, Kept, end_at, coming_to}
-use Rattle.node_laws.specs.LineRecords.Clauses.{requested_at}
+use Rattle.node_laws.specs.LineRecords.LineRecordClauses.{requested_at}
 use Rattle.node_laws.specs.LineRecords.Happens.{with_event}
 
 -- ---- what a host writes

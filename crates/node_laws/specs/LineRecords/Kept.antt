@@ -8,7 +8,7 @@ use Rattle.lapb.specs.Machine.{Octets}
 use Rattle.packet_end.specs.PacketEnd.{PacketEnd}
 use Rattle.packet_end.specs.Params.{AreParams}
 use Rattle.packet_end.specs.declared.params.EndParams.{EndParams}
-use Rattle.node_laws.specs.Lines.Line.{Line, AreAlike}
+use Rattle.node_laws.specs.Lines.NodeLine.{Line, AreAlike}
 use Rattle.node_laws.specs.Lines.Joint.{Joint, session_of}
 use Rattle.call_records.specs.Book.{Book}
 use Rattle.record_laws.specs.Books.Told.{World, Move, after_all, AreAllowed, start}

@@ -9,12 +9,12 @@ use Rattle.lapb.specs.Octets.{on_octets}
 use Rattle.data_transfer.specs.Packets as packets
 use Rattle.packet_layer.specs.Layer.{Timer, next_packet, unread}
 use Rattle.packet_layer.specs.Events.{timer_named}
-use Rattle.packet_laws.specs.Line as layers
-use Rattle.packet_laws.specs.Line.{Event}
+use Rattle.packet_laws.specs.LayerLine as layers
+use Rattle.packet_laws.specs.LayerLine.{Event}
 use Rattle.packet_end.specs.PacketEnd.{PacketEnd, runs_at, with_next}
-use Rattle.node_laws.specs.Lines.Line.{Act}
-use Rattle.node_laws.specs.Lines.Line.Act.{Begins, Hears, Expires, Relinks, RelinksIfDue, Restarts, Calls, Requests, Offers}
-use Rattle.node_laws.specs.Lines.Line.Act.{Settles, Elapses, Sends}
+use Rattle.node_laws.specs.Lines.NodeLine.{Act}
+use Rattle.node_laws.specs.Lines.NodeLine.Act.{Begins, Hears, Expires, Relinks, RelinksIfDue, Restarts, Calls, Requests, Offers}
+use Rattle.node_laws.specs.Lines.NodeLine.Act.{Settles, Elapses, Sends}
 
 -- ---- what a step of the link is, which may begin session s, and accept a packet
 

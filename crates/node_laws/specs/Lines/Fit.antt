@@ -1,7 +1,7 @@
 -- Which acts at an end can be read at the other one: a call that is placed carries what a Call Request can.
 use Rattle.std.specs.Prelude.{List, [], ◌∷◌}
 use Rattle.packet_laws.specs.Readable.{CanBePlaced}
-use Rattle.node_laws.specs.Lines.Line.{Act, Event, Calls, At}
+use Rattle.node_laws.specs.Lines.NodeLine.{Act, Event, Calls, At}
 
 abbrev pub IsFit : Act → Type 0
 IsFit (Calls parts) = CanBePlaced parts

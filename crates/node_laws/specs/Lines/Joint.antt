@@ -6,17 +6,17 @@ use Rattle.link_timers.specs.declared.role.Role.TheVariants.{Dte, Dce}
 use Rattle.link_timers.specs.Role.{other_of}
 use Rattle.lapb.specs.Machine.{Octets, Link, is_up}
 use Rattle.lapb.specs.World.{Sent, World}
-use Rattle.lapb.specs.Line.{StandsIn}
+use Rattle.lapb.specs.LinkLine.{StandsIn}
 use Rattle.data_transfer.specs.declared.flow.Flow.{Flow}
 use Rattle.data_transfer.specs.Packets.{Packet}
 use Rattle.data_transfer.specs.Packets.Received.{Whole}
 use Rattle.data_transfer.specs.Octets.{heard}
 use Rattle.packet_layer.specs.Layer.{Layer, unread}
-use Rattle.packet_laws.specs.Line.{End, Happening}
-use Rattle.packet_laws.specs.Line as layers
+use Rattle.packet_laws.specs.LayerLine.{End, Happening}
+use Rattle.packet_laws.specs.LayerLine as layers
 use Rattle.packet_end.specs.PacketEnd.{PacketEnd}
 use Rattle.packet_end.specs.Params.{info_of}
-use Rattle.node_laws.specs.Lines.Line.{Line}
+use Rattle.node_laws.specs.Lines.NodeLine.{Line}
 use Rattle.packet_laws.specs.Readable.{IsReadable}
 
 -- ---- one end

@@ -5,10 +5,10 @@ use Rattle.link_timers.specs.Role.{other_of}
 use Rattle.lapb.specs.Machine.{Octets}
 use Rattle.lapb.specs.World.{World}
 use Rattle.data_transfer.specs.Packets.{Note}
-use Rattle.packet_laws.specs.Line as layers
-use Rattle.packet_laws.specs.Line.{Event}
+use Rattle.packet_laws.specs.LayerLine as layers
+use Rattle.packet_laws.specs.LayerLine.{Event}
 use Rattle.packet_end.specs.PacketEnd.{PacketEnd}
-use Rattle.node_laws.specs.Lines.Line.{Act, Begins, Restarts, does, other_after, going_after, coming_after}
+use Rattle.node_laws.specs.Lines.NodeLine.{Act, Begins, Restarts, does, other_after, going_after, coming_after}
 use Rattle.node_laws.specs.Lines.Events.{events_of, after_here, notes_of}
 use Rattle.node_laws.specs.Lines.Joint.{JointAt, session_of, coming_session}
 

@@ -19,13 +19,13 @@ use Rattle.x28_commands.specs.declared.fault.CommandFault.{CommandFault}
 use Rattle.pad_terminal.specs.Terminal.{TerminalState, is_present, is_connected, is_data_transfer}
 use Rattle.pad_terminal.specs.Calls.{without_text}
 use Rattle.pad_terminal.specs.CommandLine as command_line
-use Rattle.pad_ports.specs.Line.{interrupt_octet}
+use Rattle.pad_ports.specs.PadLine.{interrupt_octet}
 use Rattle.pad_ports.specs.Ports as port
 use Rattle.pad_ports.specs.Ports.{AtLine}
-use Rattle.pad_ports.specs.declared.line.PadLine.{PadLine}
+use Rattle.pad_ports.specs.PadLine.{PadLine}
 use Rattle.x25_pad.specs.Pad.{PadState, begun, terminal_event, after_idle, after_frame, after_timer, after_relink}
 use Rattle.x25_pad.specs.Pad.{restarted, elapsed}
-use Rattle.line_nodes.specs.PadWriting.{writes_of}
+use Rattle.user_nodes.specs.PadWriting.{writes_of}
 use Rattle.node_laws.specs.Pads.Occasions.{Occasion, TookMessage, HadBreak, HadCommand}
 use Rattle.node_laws.specs.Pads.Holds.{PadTypes, HaveSaid}
 

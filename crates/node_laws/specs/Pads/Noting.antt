@@ -1,7 +1,7 @@
 -- What is noted of what happens at a terminal is of its own call.
 use Rattle.std.specs.Prelude.{◌≡◌, ℕ, ◌⊎◌, [], Option, Some}
 use Rattle.packet_laws.specs.Readable.{Every}
-use Rattle.pad_ports.specs.Line.{about}
+use Rattle.pad_ports.specs.PadLine.{about}
 use Rattle.pad_ports.specs.Notes.{ChannelNote, Told, Placed, Accepted, Cleared, WasReset, Edited, Sent}
 use Rattle.pad_ports.specs.Notes.{Interrupted, Took}
 use Rattle.pad_ports.specs.Ports.{AtLine, after_key, after_break, after_idle, after_print, after_leaving}

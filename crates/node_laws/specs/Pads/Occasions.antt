@@ -9,7 +9,7 @@ use Rattle.pad_terminal.specs.Terminal.{TerminalState}
 use Rattle.pad_terminal.specs.Messages.{after_octets}
 use Rattle.pad_terminal.specs.declared.answers.Reply.{Reply}
 use Rattle.pad_terminal.specs.declared.answers.Reply.TheVariants as reply
-use Rattle.pad_ports.specs.Line.{interrupt_octet}
+use Rattle.pad_ports.specs.PadLine.{interrupt_octet}
 
 -- a terminal, as it then was, took a message of the far end; a break was taken, with the values of the parameters then
 -- in force, and with an interrupt or a reset of the call pending or not; or the command INT was carried out

@@ -3,7 +3,7 @@ use Rattle.std.specs.Prelude.{◌≡◌, ℕ, List, ◌++◌, slice_get, Some, f
 use Rattle.data_transfer.specs.Packets.{Note}
 use Rattle.data_transfer.specs.Traffic.{Taken}
 use Rattle.packet_layer.specs.Layer.{front_on}
-use Rattle.pad_ports.specs.Line.{learnt_of, about}
+use Rattle.pad_ports.specs.PadLine.{learnt_of, about}
 use Rattle.pad_ports.specs.Ports.{PortState, AtLine, has_channel, text_taken}
 use Rattle.x25_pad.specs.Pad.{PadState, at_port, print_taken, print_text, all_heard}
 

@@ -14,7 +14,7 @@ use Rattle.x25_pad.specs.Pad.{PadState, terminal_event, after_frame, after_timer
 use Rattle.x25_pad.specs.Pad.{elapsed}
 use Rattle.x25_pad.specs.Making.{made, IsConfig}
 use Rattle.x25_pad.specs.declared.config.PadConfig.{PadConfig}
-use Rattle.line_nodes.specs.PadWriting.{writes_of}
+use Rattle.user_nodes.specs.PadWriting.{writes_of}
 use Rattle.node_laws.specs.Pads.Standing.{drained}
 use Rattle.node_laws.specs.Pads.Courses.{IsRecordOf, PadSends, PadHolds}
 

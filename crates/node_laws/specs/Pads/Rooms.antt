@@ -2,7 +2,7 @@
 use Rattle.std.specs.Prelude.{◌≡◌, ℕ, ◌≤◌, []}
 use Rattle.link_timers.specs.declared.timers.TimerId.{TimerId}
 use Rattle.lapb.specs.Machine.{Octets}
-use Rattle.line_nodes.specs.PadRoom.{HaveRoom}
+use Rattle.user_nodes.specs.PadRoom.{HaveRoom}
 use Rattle.pad_ports.specs.Ports as port
 use Rattle.x25_pad.specs.Pad.{PadState, terminal_event, after_idle, after_frame, after_timer, after_relink}
 

@@ -4,13 +4,13 @@ use Rattle.link_timers.specs.declared.role.Role.{Role}
 use Rattle.link_timers.specs.Role.{other_of}
 use Rattle.lapb.specs.Machine.{Octets}
 use Rattle.packet_end.specs.PacketEnd.{PacketEnd}
-use Rattle.node_laws.specs.Lines.Line.{Line}
+use Rattle.node_laws.specs.Lines.NodeLine.{Line}
 use Rattle.call_records.specs.Book.{Book}
 use Rattle.call_records.specs.Writes.{Write, all_written}
 use Rattle.node_laws.specs.LineRecords.Kept.{Setting, Kept, end_at, coming_to}
 use Rattle.node_laws.specs.LineRecords.Happens.{sent, with_event}
 use Rattle.x25_pad.specs.Pad.{PadState}
-use Rattle.line_nodes.specs.PadWriting.{writes_of}
+use Rattle.user_nodes.specs.PadWriting.{writes_of}
 
 -- all its notes were read, and all its frames went onto the line
 abbrev pub drained : PadState → PadState

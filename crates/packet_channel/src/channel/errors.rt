@@ -11,11 +11,11 @@ use crate::channel::Channel;
 use crate::control::Control;
 use crate::note::{LayerNote, Reason};
 use crate::notes::Notes;
-use crate::state::{CallState, End, error_cause};
+use crate::state::{ChannelState, End, error_cause};
 use flow_window::pool::Pool;
 use packet_codec::{clear_cause, diagnostic, reset_cause};
 
-// The diagnostic of a packet of a type that is not known. None is given for another fault.
+/// The diagnostic of a packet of a type that is not known. None is given for another fault.
 fn diagnostic_if(unknown: bool, diagnostic: u8) -> u8
     ensures { result ≡ machine.diagnostic_if unknown diagnostic }
 {
@@ -28,7 +28,7 @@ fn diagnostic_if(unknown: bool, diagnostic: u8) -> u8
 
 impl Channel {
     /// Ends the call and what is in transfer.
-    pub(crate) fn end_call(&mut self, state: CallState, pool: &mut Pool)
+    pub(crate) fn end_call(&mut self, state: ChannelState, pool: &mut Pool)
         requires { Holds pool.old self.old.held }
         ensures channel { self.new
             ≡ record { channel = machine.ended (state_of state) self.old.channel; held = [] } }
@@ -56,7 +56,7 @@ impl Channel {
         ensures held { self.new.held ≡ [] }
         ensures pool { Balances pool.old self.old.held pool.new [] }
     {
-        self.end_call(CallState::OwnClear, pool);
+        self.end_call(ChannelState::OwnClear, pool);
         let clear = Control::Clear {
             cause: error_cause(end.role, clear_cause::LOCAL_PROCEDURE_ERROR),
             diagnostic,
@@ -138,7 +138,7 @@ impl Channel {
         ensures held { self.new.held ≡ [] }
         ensures pool { Balances pool.old self.old.held pool.new [] }
     {
-        self.end_call(CallState::Ready, pool);
+        self.end_call(ChannelState::Ready, pool);
         notes.add(LayerNote::Closed {
             channel: end.channel,
             cause,
@@ -167,9 +167,9 @@ impl Channel {
         let number = self.state.number(end.role);
         let in_state = diagnostic_if(unknown, diagnostic::NOT_ALLOWED_IN_P + number);
         match self.state {
-            CallState::Ready => self.clear_error(end, in_state, false, pool, notes),
-            CallState::OwnClear => false,
-            CallState::Transfer if !self.resetting => {
+            ChannelState::Ready => self.clear_error(end, in_state, false, pool, notes),
+            ChannelState::OwnClear => false,
+            ChannelState::Transfer if !self.resetting => {
                 self.reset_error(
                     end,
                     diagnostic_if(unknown, diagnostic::NOT_ALLOWED_IN_D1),
@@ -177,10 +177,10 @@ impl Channel {
                     notes,
                 )
             }
-            CallState::Transfer
-            | CallState::OwnWaiting
-            | CallState::FarWaiting
-            | CallState::Collision => self.clear_error(end, in_state, true, pool, notes),
+            ChannelState::Transfer
+            | ChannelState::OwnWaiting
+            | ChannelState::FarWaiting
+            | ChannelState::Collision => self.clear_error(end, in_state, true, pool, notes),
         }
     }
 }

@@ -15,7 +15,7 @@ use crate::channel::Channel;
 use crate::control::Control;
 use crate::note::{LayerNote, Reason};
 use crate::notes::Notes;
-use crate::state::{CallState, End};
+use crate::state::{ChannelState, End};
 use data_transfer::Heard;
 use flow_window::pool::Pool;
 use link_timers::Role;
@@ -43,13 +43,13 @@ impl Channel {
         ensures fits { Fits end.flow self.old → Fits end.flow self.new }
     {
         match self.state {
-            CallState::Ready => self.in_ready(end, packet, pool, notes),
-            CallState::OwnWaiting => self.in_own_waiting(end, packet, pool, notes),
-            CallState::FarWaiting => self.in_far_waiting(end, packet, pool, notes),
-            CallState::Transfer if self.resetting => self.in_own_reset(end, packet, pool, notes),
-            CallState::Transfer => self.in_flow_ready(end, packet, pool, notes),
-            CallState::Collision => self.in_collision(end, packet, pool, notes),
-            CallState::OwnClear => {
+            ChannelState::Ready => self.in_ready(end, packet, pool, notes),
+            ChannelState::OwnWaiting => self.in_own_waiting(end, packet, pool, notes),
+            ChannelState::FarWaiting => self.in_far_waiting(end, packet, pool, notes),
+            ChannelState::Transfer if self.resetting => self.in_own_reset(end, packet, pool, notes),
+            ChannelState::Transfer => self.in_flow_ready(end, packet, pool, notes),
+            ChannelState::Collision => self.in_collision(end, packet, pool, notes),
+            ChannelState::OwnClear => {
                 self.in_own_clear(packet);
                 false
             }
@@ -63,7 +63,7 @@ impl Channel {
         pool: &mut Pool,
         notes: &mut Notes,
     ) -> bool
-        requires state { self.old.channel.state ≡ machine.CallState.Ready }
+        requires state { self.old.channel.state ≡ machine.ChannelState.Ready }
         requires fits { IsContentOn end.flow.numbering end.flow.size packet.now.channel (content_view packet.now.content) }
         requires holds { Holds pool.old self.old.held }
         requires read { notes.old ≡ [] }
@@ -74,7 +74,7 @@ impl Channel {
     {
         match &packet.content {
             Content::CallRequest(call) => {
-                self.state = CallState::FarWaiting;
+                self.state = ChannelState::FarWaiting;
                 notes.add(LayerNote::Incoming(end.channel, CallBuf::new(call)));
                 false
             }
@@ -83,7 +83,7 @@ impl Channel {
         }
     }
 
-    // In a call collision the DCE's own call is cancelled.
+    /// In a call collision the DCE's own call is cancelled.
     fn in_own_waiting(
         &mut self,
         end: End,
@@ -91,7 +91,7 @@ impl Channel {
         pool: &mut Pool,
         notes: &mut Notes,
     ) -> bool
-        requires state { self.old.channel.state ≡ machine.CallState.OwnWaiting }
+        requires state { self.old.channel.state ≡ machine.ChannelState.OwnWaiting }
         requires fits { IsContentOn end.flow.numbering end.flow.size packet.now.channel (content_view packet.now.content) }
         requires holds { Holds pool.old self.old.held }
         requires read { notes.old ≡ [] }
@@ -102,12 +102,12 @@ impl Channel {
     {
         match &packet.content {
             Content::CallAccepted => {
-                self.state = CallState::Transfer;
+                self.state = ChannelState::Transfer;
                 notes.add(LayerNote::Connected(end.channel));
                 false
             }
             Content::CallRequest(call) => {
-                self.state = CallState::Collision;
+                self.state = ChannelState::Collision;
                 match end.role {
                     Role::Dte => false,
                     Role::Dce => {
@@ -168,7 +168,7 @@ impl Channel {
         match packet.content {
             Content::CallAccepted => match end.role {
                 Role::Dte => {
-                    self.state = CallState::Transfer;
+                    self.state = ChannelState::Transfer;
                     notes.add(LayerNote::Connected(end.channel));
                     false
                 }
@@ -181,9 +181,9 @@ impl Channel {
         }
     }
 
-    // Nothing is owed or noted.
+    /// Nothing is owed or noted.
     fn in_own_clear(&mut self, packet: &Packet<'_>)
-        requires { self.old.channel.state ≡ machine.CallState.OwnClear }
+        requires { self.old.channel.state ≡ machine.ChannelState.OwnClear }
         ensures done { IsDone (machine.in_own_clear self.old.channel (body_of (content_view packet.now.content)))
             self.new.channel false [] }
         ensures held { self.new.held ≡ self.old.held }
@@ -192,7 +192,7 @@ impl Channel {
     {
         match packet.content {
             Content::ClearRequest { .. } | Content::ClearConfirmation => {
-                self.state = CallState::Ready;
+                self.state = ChannelState::Ready;
             }
             _ => {}
         }
@@ -205,7 +205,7 @@ impl Channel {
         pool: &mut Pool,
         notes: &mut Notes,
     ) -> bool
-        requires state { self.old.channel.state ≡ machine.CallState.Transfer }
+        requires state { self.old.channel.state ≡ machine.ChannelState.Transfer }
         requires holds { Holds pool.old self.old.held }
         requires read { notes.old ≡ [] }
         ensures done { IsDone (machine.in_own_reset end.role end.channel self.old.channel
@@ -240,7 +240,7 @@ impl Channel {
         requires window { end.flow.window ≤ 32 }
         requires most { end.flow.size ≤ 1024 }
         requires fits { IsContentOn end.flow.numbering end.flow.size packet.now.channel (content_view packet.now.content) }
-        requires state { self.old.channel.state ≡ machine.CallState.Transfer }
+        requires state { self.old.channel.state ≡ machine.ChannelState.Transfer }
         requires holds { Holds pool.old self.old.held }
         requires read { notes.old ≡ [] }
         requires size { end.flow.size ≤ pool.old.size }
@@ -287,7 +287,7 @@ impl Channel {
         }
     }
 
-    // The far end resets the call.
+    /// The far end resets the call.
     fn far_reset(
         &mut self,
         end: End,
@@ -296,7 +296,7 @@ impl Channel {
         pool: &mut Pool,
         notes: &mut Notes,
     ) -> bool
-        requires state { self.old.channel.state ≡ machine.CallState.Transfer }
+        requires state { self.old.channel.state ≡ machine.ChannelState.Transfer }
         requires holds { Holds pool.old self.old.held }
         requires read { notes.old ≡ [] }
         ensures done { IsDone (machine.in_flow_ready end.role end.flow end.channel self.old.channel
@@ -315,7 +315,7 @@ impl Channel {
         self.owe(Control::ResetConfirmation)
     }
 
-    // What a packet of data transfer does besides what it does to the traffic.
+    /// What a packet of data transfer does besides what it does to the traffic.
     fn after_heard(&mut self, end: End, heard: Heard, pool: &mut Pool, notes: &mut Notes) -> bool
         requires transfer { machine.in_transfer self.old.channel.state ≡ true }
         requires holds { Holds pool.old self.old.held }

@@ -8,12 +8,12 @@ ghost use Rattle.data_transfer.specs.Held.{Takes};
 ghost use Rattle.packet_channel.specs.Held.{Fits};
 ghost use Rattle.data_transfer.specs.Packets.{Datum};
 ghost use Rattle.data_transfer.specs.declared.flow.Flow.{Flow as FlowValue};
-ghost use Rattle.packet_channel.specs.RequestView.{request_of, bare_request_of, refusal_of};
+ghost use Rattle.packet_channel.specs.RequestView.{request_of, refusal_of};
 
 use crate::channel::Channel;
 use crate::control::Control;
 use crate::fault::{ChannelFault, RefusedBuf};
-use crate::state::CallState;
+use crate::state::ChannelState;
 use data_transfer::{Flow, InterruptData, KeptPacket, SEND_QUEUE};
 use flow_window::pool::Pool;
 use link_timers::Role;
@@ -68,16 +68,6 @@ pub enum Request<'a> {
     ConfirmInterrupt,
 }
 
-/// What a user may ask of a call that touches no packet: [`Request`] has what each comes to, and its refusals.
-#[derive(Clone, Copy)]
-pub enum BareRequest<'a> {
-    Accept,
-    Interrupt(&'a [u8]),
-    Stop(bool),
-    Release(u8),
-    ConfirmInterrupt,
-}
-
 impl Channel {
     /// Does what is asked, if it is not refused, and answers whether one control packet too many is owed.
     pub fn request(
@@ -115,30 +105,9 @@ impl Channel {
         }
     }
 
-    /// Does what is asked, if it is not refused, and answers whether one control packet too many is owed. The channel
-    /// keeps its packets.
-    pub fn bare_request(
-        &mut self,
-        role: Role,
-        request: &BareRequest<'_>,
-    ) -> Result<bool, ChannelFault>
-        ensures answer { (flow : FlowValue)
-            → Answers role flow self.old.channel (bare_request_of request.now) result self.new.channel }
-        ensures held { self.new.held ≡ self.old.held }
-        ensures arrived { self.new.channel.traffic.arrived ≡ self.old.channel.traffic.arrived }
-        ensures waiting { self.new.channel.traffic.waiting ≡ self.old.channel.traffic.waiting }
-        ensures kept { OnErr result (self.new ≡ self.old) }
-    {
-        match request {
-            BareRequest::Accept => self.accept(role),
-            BareRequest::Interrupt(octets) => self.interrupt(octets),
-            BareRequest::Stop(stopped) => self.stop(*stopped),
-            BareRequest::Release(count) => self.release(*count),
-            BareRequest::ConfirmInterrupt => self.confirm_interrupt(),
-        }
-    }
-
-    fn accept(&mut self, role: Role) -> Result<bool, ChannelFault>
+    /// Does what [`Request::Accept`] asks, with its refusal, and answers whether one control packet too many is owed. No
+    /// packet is touched.
+    pub fn accept(&mut self, role: Role) -> Result<bool, ChannelFault>
         ensures answer { (flow : FlowValue)
             → Answers role flow self.old.channel machine.Request.Accept result self.new.channel }
         ensures held { self.new.held ≡ self.old.held }
@@ -149,7 +118,7 @@ impl Channel {
         if !self.state.may_accept(role) {
             return Err(ChannelFault::NoCall);
         }
-        self.state = CallState::Transfer;
+        self.state = ChannelState::Transfer;
         Ok(self.owe(Control::Accepted))
     }
 
@@ -164,7 +133,7 @@ impl Channel {
         if !self.state.has_call() {
             return Err(ChannelFault::NoCall);
         }
-        self.end_call(CallState::OwnClear, pool);
+        self.end_call(ChannelState::OwnClear, pool);
         Ok(self.owe(Control::Clear { cause, diagnostic }))
     }
 
@@ -235,7 +204,7 @@ impl Channel {
         Ok(())
     }
 
-    // Whether a Data packet of these octets may go into the send queue.
+    /// Whether a Data packet of these octets may go into the send queue.
     fn check_send(&self, flow: Flow, octets: &[u8]) -> Result<(), ChannelFault>
         ensures answer { (role : RoleValue) (d : Datum) → d.octets ≡ octets.now → MatchResult result
             (λ _. machine.refusal role flow self.now.channel (machine.Request.Sending d) ≡ None)
@@ -259,7 +228,9 @@ impl Channel {
         Ok(())
     }
 
-    fn interrupt(&mut self, octets: &[u8]) -> Result<bool, ChannelFault>
+    /// Does what [`Request::Interrupt`] asks, with its refusals, and answers `false`: no control packet is owed. No packet
+    /// is touched.
+    pub fn interrupt(&mut self, octets: &[u8]) -> Result<bool, ChannelFault>
         ensures answer { (role : RoleValue) (flow : FlowValue)
             → Answers role flow self.old.channel (machine.Request.Interrupting octets.now) result self.new.channel }
         ensures held { self.new.held ≡ self.old.held }
@@ -283,7 +254,9 @@ impl Channel {
         Ok(false)
     }
 
-    fn stop(&mut self, stopped: bool) -> Result<bool, ChannelFault>
+    /// Does what [`Request::Stop`] asks, with its refusal, and answers `false`: no control packet is owed. No packet
+    /// is touched.
+    pub fn stop(&mut self, stopped: bool) -> Result<bool, ChannelFault>
         ensures answer { (role : RoleValue) (flow : FlowValue)
             → Answers role flow self.old.channel (machine.Request.Stopping stopped) result self.new.channel }
         ensures held { self.new.held ≡ self.old.held }
@@ -298,7 +271,9 @@ impl Channel {
         Ok(false)
     }
 
-    fn release(&mut self, count: u8) -> Result<bool, ChannelFault>
+    /// Does what [`Request::Release`] asks, with its refusal, and answers `false`: no control packet is owed. No packet
+    /// is touched.
+    pub fn release(&mut self, count: u8) -> Result<bool, ChannelFault>
         ensures answer { (role : RoleValue) (flow : FlowValue)
             → Answers role flow self.old.channel (machine.Request.Releasing count) result self.new.channel }
         ensures held { self.new.held ≡ self.old.held }
@@ -313,7 +288,9 @@ impl Channel {
         Ok(false)
     }
 
-    fn confirm_interrupt(&mut self) -> Result<bool, ChannelFault>
+    /// Does what [`Request::ConfirmInterrupt`] asks, with its refusal, and answers `false`: no control packet is owed. No packet
+    /// is touched.
+    pub fn confirm_interrupt(&mut self) -> Result<bool, ChannelFault>
         ensures answer { (role : RoleValue) (flow : FlowValue)
             → Answers role flow self.old.channel machine.Request.Confirming result self.new.channel }
         ensures held { self.new.held ≡ self.old.held }

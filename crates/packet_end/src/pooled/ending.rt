@@ -40,8 +40,8 @@ impl PooledEnd {
         true
     }
 
-    // Offers the layer's next packet to the link, if the link takes one and the layer has one, and answers whether it
-    // did.
+    /// Offers the layer's next packet to the link, if the link takes one and the layer has one, and answers whether it
+    /// did.
     fn offer_next(&mut self, pool: &mut Pool) -> bool
         requires { Serves pool.old self.old.held self.old.share self.old.info }
         ensures said { result
@@ -51,7 +51,7 @@ impl PooledEnd {
         ensures pool { Balances pool.old self.old.held pool.new self.new.held }
         ensures within { length self.new.held < self.new.share }
     {
-        if !self.line.has_room() || self.layer.is_certainly_silent() {
+        if !self.line.can_offer() || self.layer.is_certainly_silent() {
             return false;
         }
         self.touched.touch();
@@ -81,6 +81,7 @@ impl PooledEnd {
 
     /// Ends an event of a node with one line: a relink if it is due, all packets that may go, and `settle`. No frame of
     /// the event is lost.
+    #[inline(always)]
     pub fn finish(&mut self, pool: &mut Pool)
         requires notes { length self.old.end.notes ≤ 64 }
         requires pool { Serves pool.old self.old.held self.old.share self.old.info }
@@ -94,13 +95,28 @@ impl PooledEnd {
         if let Touched::Nothing = self.touched {
             return;
         }
+        self.finish_touched(pool);
+    }
+
+    /// Ends an event in which something happened.
+    #[inline(never)]
+    fn finish_touched(&mut self, pool: &mut Pool)
+        requires notes { length self.old.end.notes ≤ 64 }
+        requires pool { Serves pool.old self.old.held self.old.share self.old.info }
+        ensures end { self.new ≡ record self.old { end = finished self.old.end; held = self.new.held } }
+        ensures notes { length self.new.end.notes ≤ length self.old.end.notes + 32 }
+        ensures nothing_kept_back { KeepsNothingBack self.new.end }
+        ensures frames { EndsWhole self.old.end self.new.end }
+        ensures timers { TimersAgree self.new.end.layer self.new.end.timers }
+        ensures pool { Balances pool.old self.old.held pool.new self.new.held }
+    {
         self.relink_if_due(pool);
         let _ = self.offer_packets(pool);
         self.settle(pool);
         self.touched = Touched::Nothing;
     }
 
-    // Relinks the link if the packet layer asks for it.
+    /// Relinks the link if the packet layer asks for it.
     fn relink_if_due(&mut self, pool: &mut Pool)
         requires notes { length self.old.end.notes ≤ 64 }
         requires pool { Serves pool.old self.old.held self.old.share self.old.info }

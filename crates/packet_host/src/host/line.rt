@@ -1,5 +1,5 @@
 //! What comes from the line and what goes to it.
-ghost use Rattle.std.specs.Prelude.{◌≡◌, ◌≤◌, ◌∷◌, [], ◌++◌, length};
+ghost use Rattle.std.specs.Prelude.{◌≡◌, ◌∷◌, [], ◌++◌};
 ghost use Rattle.std.specs.Bool.{OnTrue, OnFalse};
 ghost use Rattle.packet_end.specs.PacketEnd as end;
 ghost use Rattle.packet_end.specs.Sending.{answer_frames, expiry_frames, relink_frames, ending_frames};
@@ -8,7 +8,7 @@ ghost use Rattle.packet_host.specs.Host.{after_frame, after_expiry, after_relink
 
 use crate::host::Host;
 use link_timers::TimerId;
-use packet_end::{FrameBuf, MOST_FRAMES, MOST_NOTES};
+use packet_end::FrameBuf;
 
 impl Host {
     /// Takes the octets of a received frame (X.25 2.4, 3 to 5). All frames of the event wait then: the answer and those
@@ -78,36 +78,5 @@ impl Host {
         ensures { self.new ≡ end.elapsed self.old ticks }
     {
         self.end.elapse(ticks);
-    }
-
-    /// The first timer that runs with no tick left, in the order of [`TimerId`] and then by number.
-    pub fn due(&self) -> Option<TimerId>
-        ensures { result ≡ end.due self.now }
-    {
-        self.end.due()
-    }
-
-    /// How many frames wait to be taken, at most [`MOST_FRAMES`].
-    pub fn waiting_frames(&self) -> usize
-        ensures count { result ≡ length self.now.line.frames }
-        ensures most { result ≤ MOST_FRAMES }
-    {
-        self.end.waiting_frames()
-    }
-
-    /// How many notes wait to be taken, at most [`MOST_NOTES`].
-    pub fn waiting_notes(&self) -> usize
-        ensures count { result ≡ length self.now.notes }
-        ensures most { result ≤ MOST_NOTES }
-    {
-        self.end.waiting_notes()
-    }
-
-    /// Whether the link is up with nothing unacknowledged and nothing to be said, no packet is owed, and nothing waits
-    /// to be sent or taken on any channel.
-    pub fn is_at_rest(&self) -> bool
-        ensures { result ≡ end.at_rest self.now }
-    {
-        self.end.is_at_rest()
     }
 }

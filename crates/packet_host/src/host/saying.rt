@@ -82,7 +82,7 @@ impl Host {
     }
 }
 
-// How many places of the send queue a message needs.
+/// How many places of the send queue a message needs.
 fn needed(octets: &[u8], size: u16, qualified: bool) -> usize
     requires { is_size size ≡ true }
     ensures { result ≡ places_needed size qualified octets.now }
@@ -94,7 +94,7 @@ fn needed(octets: &[u8], size: u16, qualified: bool) -> usize
     }
 }
 
-// The most octets of a message.
+/// The most octets of a message.
 fn most(qualified: bool) -> usize
     ensures { result ≡ most_octets qualified }
 {
@@ -105,7 +105,7 @@ fn most(qualified: bool) -> usize
     }
 }
 
-// Puts the packets of a message into the send queue.
+/// Puts the packets of a message into the send queue.
 fn queue(end: &mut PacketEnd, channel: u8, octets: &[u8], qualified: bool, delivery: bool)
     ensures { end.new ≡ queued channel (cut end.old.layer.flow.size (message octets.now qualified delivery)) end.old }
 {

@@ -10,7 +10,7 @@ use Rattle.packet_channel.specs.Channel.Request.{Sending, Interrupting, Stopping
 use Rattle.packet_laws.specs.History.{with_taken}
 use Rattle.packet_laws.proofs.Handshakes.Handshake.{Two}
 use Rattle.packet_laws.proofs.Call.OneEpoch.{Inner, datas, interrupts, Numbers, one, Epochs_agree, inner_after, Askable}
-use Rattle.packet_laws.specs.Law.{listed}
+use Rattle.packet_laws.specs.LayerLineLaw.{listed}
 use Rattle.packet_laws.proofs.Numbers.{apart, more_mod}
 use Rattle.packet_laws.proofs.Call.Pipes.{acks_le, acks_more}
 

@@ -10,7 +10,7 @@ use Rattle.data_transfer.specs.Traffic.{Heard, in_flight, unreleased, interrupte
 use Rattle.data_transfer.specs.Traffic.Heard.{Keeps, Confirms, Wrong}
 use Rattle.packet_laws.proofs.Handshakes.Handshake.{Two, does}
 use Rattle.packet_laws.proofs.Call.OneEpoch.{Inner, datas, interrupts, confirmations, Numbers, Acks, one, Waits, wire, Epochs_agree, heard_inner, NotWrong, inner_hears, inner_ok}
-use Rattle.packet_laws.specs.Law.{listed}
+use Rattle.packet_laws.specs.LayerLineLaw.{listed}
 use Rattle.packet_laws.proofs.Numbers.{apart, more_mod, ahead_is, shown_is}
 use Rattle.packet_laws.proofs.Call.Pipes.{acks_le}
 use Rattle.packet_laws.proofs.Call.Asking.{pair_of}

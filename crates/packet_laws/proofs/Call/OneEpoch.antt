@@ -10,7 +10,7 @@ use Rattle.data_transfer.specs.Traffic.Heard.{Keeps, Confirms, Wrong}
 use Rattle.packet_channel.specs.Channel.{Request, traffic_after}
 use Rattle.packet_channel.specs.Channel.Request.{Interrupting}
 use Rattle.packet_laws.specs.History.{Epoch, empty_epoch, logged, logged_heard}
-use Rattle.packet_laws.specs.Law.{listed}
+use Rattle.packet_laws.specs.LayerLineLaw.{listed}
 use Rattle.packet_laws.proofs.Handshakes.Handshake.{Two, Did}
 
 pub record Inner : Type 0 where

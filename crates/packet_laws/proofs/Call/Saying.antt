@@ -9,7 +9,7 @@ use Rattle.data_transfer.specs.Packets.Body.{Data, Interrupt, InterruptConfirmat
 use Rattle.data_transfer.specs.Traffic.{Said, in_flight, window_open, flow_told, ready_or_not, says_interrupt, says_data, says_flow}
 use Rattle.packet_laws.proofs.Handshakes.Handshake.{said}
 use Rattle.packet_laws.proofs.Call.OneEpoch.{Inner, datas, interrupts, confirmations, NumberOf, one, Waits, Way, Epochs_agree, inner_says}
-use Rattle.packet_laws.specs.Law.{listed}
+use Rattle.packet_laws.specs.LayerLineLaw.{listed}
 use Rattle.packet_laws.proofs.Numbers.{apart, shown_is}
 use Rattle.packet_laws.proofs.Call.Pipes.{datas_append, interrupts_append, confirmations_append, numbers_push, acks_le, acks_push}
 use Rattle.packet_laws.proofs.Call.Asking.{pair_of}

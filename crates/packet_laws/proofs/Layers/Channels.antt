@@ -11,8 +11,8 @@ use Rattle.data_transfer.specs.Packets.{CallParts, Body}
 use Rattle.data_transfer.specs.Packets.Body.{Call, Accepted, Clear, ClearConfirmation, Data, Interrupt, InterruptConfirmation, ReceiveReady, ReceiveNotReady, Reset, ResetConfirmation}
 use Rattle.data_transfer.specs.Traffic.{Traffic, fresh, Heard, hears}
 use Rattle.data_transfer.specs.Traffic.Heard.{Keeps, Confirms, Wrong}
-use Rattle.packet_channel.specs.Channel.{CallState, Channel, Step, Request, Refusal, closed_channel, clear_error, reset_error, error_cause, far_cleared, after_heard, in_flow_ready, in_own_reset, in_ready, in_own_waiting, in_far_waiting, in_collision, in_own_clear, received_in, received, unreadable_in, unreadable, in_transfer, is_ready, refused_if, refusal, carried_out, unless, requested, traffic_after, owing, with_owed, is_full, placing}
-use Rattle.packet_channel.specs.Channel.CallState.{Ready, OwnWaiting, FarWaiting, Transfer, Collision, OwnClear}
+use Rattle.packet_channel.specs.Channel.{ChannelState, Channel, Step, Request, Refusal, closed_channel, clear_error, reset_error, error_cause, far_cleared, after_heard, in_flow_ready, in_own_reset, in_ready, in_own_waiting, in_far_waiting, in_collision, in_own_clear, received_in, received, unreadable_in, unreadable, in_transfer, is_ready, refused_if, refusal, carried_out, unless, requested, traffic_after, owing, with_owed, is_full, placing}
+use Rattle.packet_channel.specs.Channel.ChannelState.{Ready, OwnWaiting, FarWaiting, Transfer, Collision, OwnClear}
 use Rattle.packet_channel.specs.Channel.Request.{Accept, Clearing, Resetting, Sending, Interrupting, Stopping, Taking, Releasing, Confirming}
 use Rattle.packet_laws.specs.History.{Epoch, empty_epoch, logged, logged_heard}
 use Rattle.packet_laws.specs.Counts.{NamesAfter}
@@ -22,7 +22,7 @@ use Rattle.packet_laws.proofs.Call.Saying.{by_cond}
 use Rattle.packet_laws.specs.Layers.Epochs.{begun_by, grown_unless, grown_by, after_request, after_packet, after_unreadable}
 use Rattle.packet_laws.specs.Layers.Counts.{HasNoNumber, Counts, Agrees}
 
-abbrev pub channel_in : CallState → Bool → List Body → Traffic → Channel
+abbrev pub channel_in : ChannelState → Bool → List Body → Traffic → Channel
 channel_in s rs o t = record { state = s; resetting = rs; owed = o; traffic = t }
 
 -- the channel after a step agrees with what the step makes of this epoch
@@ -48,7 +48,7 @@ closed_agrees flow = record {
 }
 
 -- a call ends
-ends : (flow : Flow) (s : CallState) (o : List Body) (b : Body) → Every HasNoNumber o → HasNoNumber b → Counts flow s false (with_owed o (Some b)) fresh empty_epoch
+ends : (flow : Flow) (s : ChannelState) (o : List Body) (b : Body) → Every HasNoNumber o → HasNoNumber b → Counts flow s false (with_owed o (Some b)) fresh empty_epoch
 ends flow s o b all p = record {
   names = counts_hold.begins flow;
   unused = λ out. record { epoch = refl; traffic = refl; not_resetting = refl };
@@ -56,7 +56,7 @@ ends flow s o b all p = record {
 }
 
 -- a reset, in data transfer
-renews : (flow : Flow) (s : CallState) (rs : Bool) (o : List Body) (b : Body) → in_transfer s ≡ true → Every HasNoNumber o → HasNoNumber b → Counts flow s rs (with_owed o (Some b)) fresh empty_epoch
+renews : (flow : Flow) (s : ChannelState) (rs : Bool) (o : List Body) (b : Body) → in_transfer s ≡ true → Every HasNoNumber o → HasNoNumber b → Counts flow s rs (with_owed o (Some b)) fresh empty_epoch
 renews flow s rs o b t all p = record {
   names = counts_hold.begins flow;
   unused = λ out. absurd (true≢false (sym t ∙ out));
@@ -74,20 +74,20 @@ resets role flow c diagnostic ch e t all = renews flow ch.state true ch.owed (Re
 
 -- ---- a channel out of data transfer comes to another state
 
-pub goes_to : (flow : Flow) (s : CallState) (s' : CallState) (rs : Bool) (o : List Body) (t : Traffic) (e : Epoch) → in_transfer s ≡ false → Counts flow s rs o t e → Counts flow s' rs o t e
+pub goes_to : (flow : Flow) (s : ChannelState) (s' : ChannelState) (rs : Bool) (o : List Body) (t : Traffic) (e : Epoch) → in_transfer s ≡ false → Counts flow s rs o t e → Counts flow s' rs o t e
 goes_to flow s s' rs o t e out k = record { names = k.names; unused = λ out'. k.unused out; controls = k.controls }
 
 -- and owes a packet
-owes : (flow : Flow) (s : CallState) (rs : Bool) (o : List Body) (t : Traffic) (e : Epoch) (b : Body) → HasNoNumber b → Counts flow s rs o t e → Counts flow s rs (with_owed o (Some b)) t e
+owes : (flow : Flow) (s : ChannelState) (rs : Bool) (o : List Body) (t : Traffic) (e : Epoch) (b : Body) → HasNoNumber b → Counts flow s rs o t e → Counts flow s rs (with_owed o (Some b)) t e
 owes flow s rs o t e b p k = record { names = k.names; unused = k.unused; controls = owed_controls o b k.controls p }
 
 -- an unused one has begun its epoch
-begins : (flow : Flow) (s : CallState) (rs : Bool) (o : List Body) (t : Traffic) (e : Epoch) → in_transfer s ≡ false → Counts flow s rs o t e → Counts flow s rs o t empty_epoch
+begins : (flow : Flow) (s : ChannelState) (rs : Bool) (o : List Body) (t : Traffic) (e : Epoch) → in_transfer s ≡ false → Counts flow s rs o t e → Counts flow s rs o t empty_epoch
 begins flow s rs o t e out k = subst (λ (x : Epoch). Counts flow s rs o t x) (k.unused out).epoch k
 
 -- ---- packets from the link
 
-abbrev Received : Role → Flow → ℕ → CallState → Bool → List Body → Traffic → Epoch → Body → Step → Type 0
+abbrev Received : Role → Flow → ℕ → ChannelState → Bool → List Body → Traffic → Epoch → Body → Step → Type 0
 Received role flow c s rs o t e b st = Counts flow s rs o t e → StepAgrees flow st (grown_by s rs (hears flow t b) e)
 
 in_p1 : (role : Role) (flow : Flow) (c : ℕ) (rs : Bool) (o : List Body) (t : Traffic) (e : Epoch) (b : Body) → Received role flow c Ready rs o t e b (in_ready role c (channel_in Ready rs o t) b)
@@ -153,7 +153,7 @@ in_d2 role flow c o t e (Interrupt octets) k = k
 in_d2 role flow c o t e InterruptConfirmation k = k
 in_d2 role flow c o t e _ k = clears role flow c _ true (channel_in Transfer true o t) e k.controls
 
-received_by : (role : Role) (flow : Flow) (c : ℕ) (s : CallState) (rs : Bool) (o : List Body) (t : Traffic) (e : Epoch) (b : Body) → flow.window < modulus flow.numbering
+received_by : (role : Role) (flow : Flow) (c : ℕ) (s : ChannelState) (rs : Bool) (o : List Body) (t : Traffic) (e : Epoch) (b : Body) → flow.window < modulus flow.numbering
     → Received role flow c s rs o t e b (received_in s role flow c (channel_in s rs o t) b)
 received_by role flow c Ready rs o t e b le k = in_p1 role flow c rs o t e b k
 received_by role flow c OwnWaiting rs o t e b le k = in_p2 role flow c rs o t e b k
@@ -167,7 +167,7 @@ pub received_agrees : (role : Role) (flow : Flow) (c : ℕ) (b : Body) → flow.
 received_agrees role flow c b le ch e k = received_by role flow c ch.state ch.resetting ch.owed ch.traffic e b le k
 
 -- one that cannot be read
-unreadable_by : (role : Role) (flow : Flow) (c : ℕ) (unknown : Bool) (s : CallState) (rs : Bool) (o : List Body) (t : Traffic) (e : Epoch) → Counts flow s rs o t e → StepAgrees flow (unreadable_in s role c unknown (channel_in s rs o t)) e
+unreadable_by : (role : Role) (flow : Flow) (c : ℕ) (unknown : Bool) (s : ChannelState) (rs : Bool) (o : List Body) (t : Traffic) (e : Epoch) → Counts flow s rs o t e → StepAgrees flow (unreadable_in s role c unknown (channel_in s rs o t)) e
 unreadable_by role flow c unknown Ready rs o t e k = clears role flow c _ false (channel_in Ready rs o t) e k.controls
 unreadable_by role flow c unknown OwnWaiting rs o t e k = clears role flow c _ true (channel_in OwnWaiting rs o t) e k.controls
 unreadable_by role flow c unknown FarWaiting rs o t e k = clears role flow c _ true (channel_in FarWaiting rs o t) e k.controls
@@ -185,14 +185,14 @@ in_call : (b : Bool) (r : Refusal) (o : Option Refusal) → refused_if (not b) r
 in_call true r o none = refl
 in_call false r o none = absurd (none-some _ (sym none))
 
-asked_agrees : (flow : Flow) (s : CallState) (rs : Bool) (o : List Body) (t : Traffic) (e : Epoch) (r : Request) → flow.window < modulus flow.numbering → in_transfer s ≡ true → Counts flow s rs o t e → Counts flow s rs o (traffic_after r t) (logged t r e)
+asked_agrees : (flow : Flow) (s : ChannelState) (rs : Bool) (o : List Body) (t : Traffic) (e : Epoch) (r : Request) → flow.window < modulus flow.numbering → in_transfer s ≡ true → Counts flow s rs o t e → Counts flow s rs o (traffic_after r t) (logged t r e)
 asked_agrees flow s rs o t e r le is k = record {
   names = counts_hold.asked flow le t e r k.names;
   unused = λ out. absurd (true≢false (sym is ∙ out));
   controls = k.controls;
 }
 
-carried_agrees : (role : Role) (flow : Flow) (s : CallState) (rs : Bool) (o : List Body) (t : Traffic) (e : Epoch) (r : Request) → flow.window < modulus flow.numbering → refusal role flow (channel_in s rs o t) r ≡ None → Counts flow s rs o t e
+carried_agrees : (role : Role) (flow : Flow) (s : ChannelState) (rs : Bool) (o : List Body) (t : Traffic) (e : Epoch) (r : Request) → flow.window < modulus flow.numbering → refusal role flow (channel_in s rs o t) r ≡ None → Counts flow s rs o t e
     → StepAgrees flow (carried_out (channel_in s rs o t) r) (logged t r e)
 carried_agrees role flow s rs o t e Accept le none k = record {
   names = k.names;
@@ -216,7 +216,7 @@ requested_agrees role flow r le ch e k = by_refusal (refusal role flow ch r) ref
     by_refusal (Some refused) is = k
 
 -- a call placed, in p1
-not_in_p4 : (s : CallState) → is_ready s ≡ true → in_transfer s ≡ false
+not_in_p4 : (s : ChannelState) → is_ready s ≡ true → in_transfer s ≡ false
 not_in_p4 Ready is = refl
 not_in_p4 _ is = absurd (true≢false (sym is))
 

@@ -6,8 +6,8 @@ use Rattle.data_transfer.specs.Packets.Received.{Whole, Unknown, Faulty}
 use Rattle.data_transfer.specs.Traffic.{Traffic, Taken, Heard, front, may_release, hears}
 use Rattle.data_transfer.specs.Traffic.Taken.{TakenInterrupt, TakenPacket}
 use Rattle.data_transfer.specs.Traffic.Heard.{Keeps, Confirms, Wrong}
-use Rattle.packet_channel.specs.Channel.{CallState, Channel, Request, Refusal, refusal, requested, received, unreadable}
-use Rattle.packet_channel.specs.Channel.CallState.{Transfer}
+use Rattle.packet_channel.specs.Channel.{ChannelState, Channel, Request, Refusal, refusal, requested, received, unreadable}
+use Rattle.packet_channel.specs.Channel.ChannelState.{Transfer}
 use Rattle.packet_channel.specs.Channel.Request.{Sending, Interrupting, Taking, Releasing}
 use Rattle.packet_layer.specs.Layer.{Layer, Phase, Timer, channel_of, runs}
 use Rattle.packet_layer.specs.Layer.Phase.{PacketReady, OwnRestart, NoSession}
@@ -15,13 +15,13 @@ use Rattle.packet_layer.specs.Layer.Timer.{RestartTimer, CallTimer, ResetTimer, 
 use Rattle.packet_layer.specs.Events.{timer_named}
 use Rattle.data_transfer.specs.Octets.{heard}
 use Rattle.packet_laws.specs.History.{Epoch, empty_epoch, logged, logged_heard, with_taken}
-use Rattle.packet_laws.specs.Law.{IsPrefix}
+use Rattle.packet_laws.specs.LayerLineLaw.{IsPrefix}
 use Rattle.packet_laws.proofs.Call.Saying.{by_cond}
 use Rattle.packet_laws.specs.Layers.Epochs.{Epochs, begun_by, grown_unless, grown_by, after_request, after_packet, after_unreadable, on_found, on_channel, on_restart, on_received, on_hearing, on_expiry, on_timer}
 use Rattle.packet_laws.specs.Layers.Acts.{Act, epochs_after}
 use Rattle.packet_laws.specs.Layers.Acts.Act.{Up, Down, Requests, Expires, Arrives}
 use Rattle.packet_laws.specs.Layers.Counts.{Grows}
-use Rattle.packet_laws.specs.Layers.Law.{GrowsLaw}
+use Rattle.packet_laws.specs.Layers.NumbersLaw.{GrowsLaw}
 
 same : {X : Type 0} (xs : List X) → IsPrefix xs xs
 same xs = ([], append-nil xs)
@@ -104,7 +104,7 @@ hears_more (Keeps n t) e = record {
 hears_more (Confirms t) e = stays e
 hears_more (Wrong d) e = stays e
 
-covers : (s : CallState) (resetting : Bool) (h : Heard) (e : Epoch) → Grows e (grown_by s resetting h e)
+covers : (s : ChannelState) (resetting : Bool) (h : Heard) (e : Epoch) → Grows e (grown_by s resetting h e)
 covers Transfer false h e = hears_more h e
 covers Transfer true h e = stays e
 covers _ resetting h e = stays e

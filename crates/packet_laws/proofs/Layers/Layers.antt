@@ -10,7 +10,7 @@ use Rattle.data_transfer.specs.Packets.{CallParts, Body, Received}
 use Rattle.data_transfer.specs.Packets.Body.{Restart, RestartConfirmation}
 use Rattle.data_transfer.specs.Packets.Received.{Whole, Unknown, Faulty}
 use Rattle.packet_channel.specs.Channel.{Channel, Step, Request, closed_channel, clear_error, entered, is_ready, owing, placing, received, requested, unreadable, ChannelNext, next_of}
-use Rattle.packet_channel.specs.Channel.CallState.{Transfer}
+use Rattle.packet_channel.specs.Channel.ChannelState.{Transfer}
 use Rattle.packet_layer.specs.Layer.{Layer, Phase, Timer, Next, nth_channel, channel_of, with_nth, standing_channels, unread, start_cause, link_up, link_down, restart_packet, on_found, on_channel, on_received, runs, expired, channel_given, placed_on, call, request, next_number, served, serve_found, serve, next_restart, next_in, next_packet}
 use Rattle.packet_layer.specs.Layer.Phase.{NoSession, OwnRestart, PacketReady}
 use Rattle.packet_layer.specs.Layer.Timer.{RestartTimer, CallTimer, ResetTimer, ClearTimer}

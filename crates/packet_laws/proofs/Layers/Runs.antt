@@ -8,8 +8,8 @@ use Rattle.data_transfer.proofs.Windows.{window_below}
 use Rattle.packet_layer.specs.Params.{AreParams}
 use Rattle.packet_laws.specs.Layers.Acts.{World, Act, start, after, run}
 use Rattle.packet_laws.specs.Layers.Counts.{AllCounts, AllAgree}
-use Rattle.packet_laws.specs.Layers.Law.{CallsLaw, NamedLaw, Always, IsNextNamed, ResetsInTransfer}
-use Rattle.packet_laws.specs.Layers.Run.{sends, covers, takes, errs, begins, sent, covered, taken, reset, RunLaw}
+use Rattle.packet_laws.specs.Layers.NumbersLaw.{CallsLaw, NamedLaw, Always, IsNextNamed, ResetsInTransfer}
+use Rattle.packet_laws.specs.Layers.LayerRun.{sends, covers, takes, errs, begins, sent, covered, taken, reset, RunLaw}
 use Rattle.packet_laws.proofs.Layers.Layers.{Follows, made_agrees, act_follows, gives}
 
 -- a layer whose window is below the modulus agrees with its epochs

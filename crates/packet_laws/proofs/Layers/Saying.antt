@@ -5,7 +5,7 @@ use Rattle.data_transfer.specs.declared.flow.Flow.{Flow}
 use Rattle.data_transfer.specs.Packets.{Datum, Body}
 use Rattle.data_transfer.specs.Packets.Body.{Data, ReceiveReady, ReceiveNotReady}
 use Rattle.data_transfer.specs.Traffic.{Traffic, Said, says, says_interrupt, says_data, says_flow, flow_told, window_open, ready_or_not}
-use Rattle.packet_channel.specs.Channel.{CallState, Channel, in_transfer, has_flow, ChannelNext, next_of}
+use Rattle.packet_channel.specs.Channel.{ChannelState, Channel, in_transfer, has_flow, ChannelNext, next_of}
 use Rattle.packet_laws.specs.History.{Epoch}
 use Rattle.packet_laws.specs.Counts.{NamesCounts}
 use Rattle.packet_laws.specs.Readable.{IfAny}
@@ -60,7 +60,7 @@ says_named flow t e le k =
 abbrev pub NextAgrees : Flow → Epoch → ChannelNext → Type 0
 NextAgrees flow e n = Agrees flow n.channel e × IfAny (λ b. IsNamed flow e b) n.body
 
-next_by : (flow : Flow) (s : CallState) (rs : Bool) (o : List Body) (t : Traffic) (e : Epoch) → flow.window < modulus flow.numbering → Counts flow s rs o t e → NextAgrees flow e (next_of flow (channel_in s rs o t))
+next_by : (flow : Flow) (s : ChannelState) (rs : Bool) (o : List Body) (t : Traffic) (e : Epoch) → flow.window < modulus flow.numbering → Counts flow s rs o t e → NextAgrees flow e (next_of flow (channel_in s rs o t))
 next_by flow s rs (b ∷ bs) t e le k = (record { names = k.names; unused = k.unused; controls = k.controls.1 }, no_number flow e b k.controls.0)
 next_by flow s rs [] t e le k =
     by_cond (λ (n : ChannelNext). NextAgrees flow e n) (has_flow (channel_in s rs [] t)) _ _

@@ -7,7 +7,7 @@ use Rattle.data_transfer.specs.Packets.{CallParts, Body}
 use Rattle.data_transfer.specs.Packets.Body.{Call, Accepted, Clear, Reset}
 use Rattle.data_transfer.specs.Traffic.{says}
 use Rattle.packet_channel.specs.Channel.{Channel, Step, Request, Refusal, requested, refusal, refused_if, carried_out, unless, ended, entered}
-use Rattle.packet_channel.specs.Channel.CallState.{Transfer, OwnClear}
+use Rattle.packet_channel.specs.Channel.ChannelState.{Transfer, OwnClear}
 use Rattle.packet_channel.specs.Channel.Request.{Accept, Clearing, Resetting, Sending, Interrupting, Stopping, Taking, Releasing, Confirming}
 use Rattle.packet_layer.specs.Layer.{placing}
 use Rattle.packet_laws.specs.History.{Epoch, History, requested_history, grown, grown_unless, opened, logged, next_use_of, next_epoch_of, placed, with_call, with_answer, call_accepted}

@@ -8,9 +8,9 @@ use Rattle.data_transfer.specs.Packets.Body.{Call, Accepted, Clear, ClearConfirm
 use Rattle.data_transfer.specs.Traffic.{Heard, hears}
 use Rattle.data_transfer.specs.Traffic.Heard.{Keeps, Confirms, Wrong}
 use Rattle.packet_channel.specs.Channel.{Channel, Step, received, after_heard}
-use Rattle.packet_channel.specs.Channel.CallState.{Transfer}
+use Rattle.packet_channel.specs.Channel.ChannelState.{Transfer}
 use Rattle.packet_laws.specs.History.{History, received_history, logged_heard, heard_history, opened, grown}
-use Rattle.packet_laws.specs.Law.{is_request}
+use Rattle.packet_laws.specs.LayerLineLaw.{is_request}
 use Rattle.packet_laws.proofs.Handshakes.Handshake.{Kind, Did, at, advanced, reacted}
 use Rattle.packet_laws.proofs.Handshakes.Handshake.Kind.{Payload}
 use Rattle.packet_laws.proofs.Handshakes.Keeping.{at_next}

@@ -5,9 +5,9 @@ use Rattle.data_transfer.specs.declared.flow.Flow.{Flow}
 use Rattle.data_transfer.specs.Packets.{Body}
 use Rattle.packet_laws.specs.History.{Epoch, History}
 use Rattle.packet_channel.specs.Channel.{Channel}
-use Rattle.packet_channel.specs.Channel.CallState.{Transfer}
-use Rattle.packet_laws.specs.Line.{Line}
-use Rattle.packet_laws.specs.Law.{HasNoLogs, OneAnswers, IsAccepted}
+use Rattle.packet_channel.specs.Channel.ChannelState.{Transfer}
+use Rattle.packet_laws.specs.LayerLine.{Line}
+use Rattle.packet_laws.specs.LayerLineLaw.{HasNoLogs, OneAnswers, IsAccepted}
 use Rattle.packet_laws.proofs.Handshakes.Handshake.{at, inner}
 use Rattle.packet_laws.proofs.Call.SetUp.{Stage, Idle, answers}
 use Rattle.packet_laws.proofs.Call.SetUp.Stage.{Free, Placed, Waiting, Collided, Open}

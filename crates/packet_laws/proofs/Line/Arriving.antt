@@ -11,8 +11,8 @@ use Rattle.packet_channel.specs.Channel.{Channel, Step, received, closed_channel
 use Rattle.packet_layer.specs.Layer.{Phase, Layer, channel_of, owing, on_found, on_channel, restart_packet, on_packet, unread, with_owed, passes_limit, owes_restart, all_closed}
 use Rattle.packet_layer.specs.Layer.Phase.{NoSession, OwnRestart, PacketReady}
 use Rattle.packet_laws.specs.History.{History, packet_history, restart_history, channel_history, received_history, found_history, next_restart_of}
-use Rattle.packet_laws.specs.Line.{Line, happens, accepts, arrives_in, next_of_session, is_session}
-use Rattle.packet_laws.specs.Line.Event.{Arrives}
+use Rattle.packet_laws.specs.LayerLine.{Line, happens, accepts, arrives_in, next_of_session, is_session}
+use Rattle.packet_laws.specs.LayerLine.Event.{Arrives}
 use Rattle.packet_laws.proofs.Handshakes.Handshake as handshake
 use Rattle.packet_laws.proofs.Handshakes.Handshake.{Kind, said, does, AllPayload, advanced, confirmed_side, side_hears, side_ok}
 use Rattle.packet_laws.proofs.Handshakes.Handshake.Kind.{Payload, Request, Confirmation}

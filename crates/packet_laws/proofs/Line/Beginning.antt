@@ -9,7 +9,7 @@ use Rattle.data_transfer.specs.Packets.Body.{Restart}
 use Rattle.packet_channel.specs.Channel.{closed_channel}
 use Rattle.packet_layer.specs.Layer.{nth_channel, made, standing_channels}
 use Rattle.packet_laws.specs.History.{History, empty_epoch, new_history, in_whole_use}
-use Rattle.packet_laws.specs.Line.{start_end, start_line, start_history, no_parts}
+use Rattle.packet_laws.specs.LayerLine.{start_end, start_line, start_history, no_parts}
 use Rattle.packet_laws.proofs.Handshakes.Handshake.{Two, at, started}
 use Rattle.packet_laws.proofs.Call.SetUp.Stage.{Open}
 use Rattle.packet_laws.proofs.Call.OneEpoch.{Inner, begun_epoch, Epochs_agree}

@@ -7,8 +7,8 @@ use Rattle.data_transfer.specs.Packets.{CallParts, Body, Packet}
 use Rattle.data_transfer.specs.Packets.Body.{Call}
 use Rattle.packet_channel.specs.Channel.{Channel}
 use Rattle.packet_laws.specs.History.{Epoch, History}
-use Rattle.packet_laws.specs.Line.{Line}
-use Rattle.packet_laws.specs.Law.{CallArrives, CallKnown, TakesCall}
+use Rattle.packet_laws.specs.LayerLine.{Line}
+use Rattle.packet_laws.specs.LayerLineLaw.{CallArrives, CallKnown, TakesCall}
 use Rattle.packet_laws.proofs.Handshakes.Handshake.{Kind, Side, Two, at, Seen, Walk, Inv}
 use Rattle.packet_laws.proofs.Handshakes.Handshake.Kind.{Payload}
 use Rattle.packet_laws.proofs.Handshakes.Walks.{walk_reach, walk_above}

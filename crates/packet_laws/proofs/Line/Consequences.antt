@@ -7,8 +7,8 @@ use Rattle.data_transfer.specs.Packets.Body.{RestartConfirmation}
 use Rattle.packet_channel.specs.Channel.{Channel, received}
 use Rattle.packet_layer.specs.Layer.{Phase, Layer, channel_of}
 use Rattle.packet_laws.specs.History.{Epoch, History}
-use Rattle.packet_laws.specs.Line.{Line, next_of_session, turned}
-use Rattle.packet_laws.specs.Law.{Aligned, InStep, Holds, listed, is_request, is_fault_on, is_restart_fault, is_channel_fault}
+use Rattle.packet_laws.specs.LayerLine.{Line, next_of_session, turned}
+use Rattle.packet_laws.specs.LayerLineLaw.{Aligned, InStep, Holds, listed, is_request, is_fault_on, is_restart_fault, is_channel_fault}
 use Rattle.packet_laws.proofs.Handshakes.Handshake.{Side, at, inner}
 use Rattle.packet_laws.proofs.Handshakes.Walks.{walk_above}
 use Rattle.packet_laws.proofs.Handshakes.Keeping.{same}

@@ -8,10 +8,10 @@ use Rattle.data_transfer.specs.Packets.{Body}
 use Rattle.data_transfer.specs.Traffic.{Traffic}
 use Rattle.packet_channel.specs.Channel.{Channel, in_transfer}
 use Rattle.packet_laws.specs.History.{Epoch}
-use Rattle.packet_laws.specs.Law.{epoch_now}
+use Rattle.packet_laws.specs.LayerLineLaw.{epoch_now}
 use Rattle.packet_laws.specs.Counts.{NamesCounts}
 use Rattle.packet_laws.specs.Counted.{IsCounted, LineCountsLaw}
-use Rattle.packet_laws.specs.Line.{Line, after, start_line, turned}
+use Rattle.packet_laws.specs.LayerLine.{Line, after, start_line, turned}
 use Rattle.packet_laws.proofs.Handshakes.Handshake.{at, inner}
 use Rattle.packet_laws.proofs.Handshakes.Keeping.{same}
 use Rattle.packet_laws.proofs.Call.SetUp.{Stage}

@@ -9,10 +9,10 @@ use Rattle.data_transfer.specs.Packets.{Packet}
 use Rattle.packet_channel.specs.Channel.{Channel, closed_channel, requested}
 use Rattle.packet_layer.specs.Layer.Phase.{NoSession, OwnRestart, PacketReady}
 use Rattle.packet_layer.specs.Layer.{Phase, Layer, nth_channel, channel_of, channel_given, standing_channels}
-use Rattle.packet_laws.specs.Line.{End, Line, Event, Happening, turned, happens, after_one, after, start_line, may_begin, begun, offers, accepts, arrives_in, next_of_session}
-use Rattle.packet_laws.specs.Line.Event.{Up, Down, Calls, Requests, Expires, Offers, Arrives}
-use Rattle.packet_laws.specs.Line.Happening.{Here, There}
-use Rattle.packet_laws.specs.Law.{NoFault, LineLaw, is_fault_on, is_restart_fault, is_channel_fault}
+use Rattle.packet_laws.specs.LayerLine.{End, Line, Event, Happening, turned, happens, after_one, after, start_line, may_begin, begun, offers, accepts, arrives_in, next_of_session}
+use Rattle.packet_laws.specs.LayerLine.Event.{Up, Down, Calls, Requests, Expires, Offers, Arrives}
+use Rattle.packet_laws.specs.LayerLine.Happening.{Here, There}
+use Rattle.packet_laws.specs.LayerLineLaw.{NoFault, LineLaw, is_fault_on, is_restart_fault, is_channel_fault}
 use Rattle.packet_laws.proofs.Call.Saying.{by_cond}
 use Rattle.packet_laws.proofs.Line.Lines.{Tied}
 use Rattle.packet_laws.proofs.Line.Moves.{map_length, found_same, placed_same, timer_same, calls_tied, requests_tied, expires_tied, down_tied, up_tied}

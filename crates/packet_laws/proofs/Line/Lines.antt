@@ -10,7 +10,7 @@ use Rattle.data_transfer.specs.Packets.Body.{Restart, RestartConfirmation}
 use Rattle.packet_channel.specs.Channel.{Channel}
 use Rattle.packet_layer.specs.Layer.{Layer, nth_channel, channel_of, with_nth, with_owed, passes_limit, is_full, set_if}
 use Rattle.packet_laws.specs.History.{History}
-use Rattle.packet_laws.specs.Line.{End, Line}
+use Rattle.packet_laws.specs.LayerLine.{End, Line}
 use Rattle.packet_laws.proofs.Handshakes.Handshake.{said, AllPayload, SaysPayload}
 use Rattle.packet_laws.proofs.Call.Levels.{restart_kind, Whole, begun_whole, GoodWhole}
 use Rattle.packet_laws.proofs.Line.Stored.{stored, phase_of, shown, Settled, Frozen, HistoryTie}

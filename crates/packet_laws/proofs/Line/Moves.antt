@@ -11,8 +11,8 @@ use Rattle.packet_layer.specs.Layer as layer
 use Rattle.packet_layer.specs.Layer.{Layer, Timer, channel_of, with_nth, on_found, call, placed_on, channel_given, request, on_timer, expired, unread, runs, link_down, start_cause}
 use Rattle.packet_layer.specs.Layer.Timer.{RestartTimer, CallTimer, ResetTimer, ClearTimer}
 use Rattle.packet_laws.specs.History.{History, request_history, timer_history, call_history}
-use Rattle.packet_laws.specs.Line.{End, Line, happens, told, with_layer, begun, may_begin, is_session}
-use Rattle.packet_laws.specs.Line.Event.{Up, Down, Calls, Requests, Expires}
+use Rattle.packet_laws.specs.LayerLine.{End, Line, happens, told, with_layer, begun, may_begin, is_session}
+use Rattle.packet_laws.specs.LayerLine.Event.{Up, Down, Calls, Requests, Expires}
 use Rattle.packet_laws.proofs.Handshakes.Keeping.{same}
 use Rattle.packet_laws.proofs.Call.Saying.{and_parts, by_cond}
 use Rattle.packet_laws.proofs.Call.Levels.{Whole, begun_whole, GoodWhole}

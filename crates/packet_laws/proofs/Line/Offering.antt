@@ -9,8 +9,8 @@ use Rattle.data_transfer.specs.Traffic.{says}
 use Rattle.packet_channel.specs.Channel.{Channel, has_flow, moved}
 use Rattle.packet_layer.specs.Layer.{Phase, Layer, Next, ChannelNext, channel_of, with_nth, next_packet, next_in, next_restart, serve, serve_found, next_of, next_owed, next_number, packet_of}
 use Rattle.packet_layer.specs.Layer.Phase.{NoSession, OwnRestart, PacketReady}
-use Rattle.packet_laws.specs.Line.{Line, happens, handed_over, offers}
-use Rattle.packet_laws.specs.Line.Event.{Offers}
+use Rattle.packet_laws.specs.LayerLine.{Line, happens, handed_over, offers}
+use Rattle.packet_laws.specs.LayerLine.Event.{Offers}
 use Rattle.packet_laws.proofs.Handshakes.Handshake.{said, AllPayload}
 use Rattle.packet_laws.proofs.Handshakes.Handshake.Kind.{Payload}
 use Rattle.packet_laws.proofs.Handshakes.Keeping.{same}

@@ -6,8 +6,8 @@ use Rattle.link_timers.specs.declared.role.Role.TheVariants.{Dte, Dce}
 use Rattle.data_transfer.specs.declared.flow.Flow.{Flow}
 use Rattle.data_transfer.specs.Packets.{CallParts, Body, Reason}
 use Rattle.data_transfer.specs.Packets.Body.{Call, Clear, Restart}
-use Rattle.packet_channel.specs.Channel.{CallState, Channel, Step, Request, requested, clear_error, closed_channel, error_cause, in_transfer}
-use Rattle.packet_channel.specs.Channel.CallState.{OwnClear}
+use Rattle.packet_channel.specs.Channel.{ChannelState, Channel, Step, Request, requested, clear_error, closed_channel, error_cause, in_transfer}
+use Rattle.packet_channel.specs.Channel.ChannelState.{OwnClear}
 use Rattle.packet_layer.specs.Layer.{Phase, Layer, Timer, nth_channel, channel_of, after_step, owing, on_found, with_owed, passes_limit, unread, restarting, all_closed, placing, placed_on, call, channel_given, free_channel, lowest_free, highest_free, is_free, is_ready, either_of, raised, itself_if, request, runs, runs_at, expired, on_timer, waits_for_call, waits_for_clear}
 use Rattle.packet_layer.specs.Layer.Phase.{NoSession, OwnRestart, PacketReady}
 use Rattle.packet_layer.specs.Layer.Timer.{RestartTimer, CallTimer, ResetTimer, ClearTimer}
@@ -246,7 +246,7 @@ request_outcome flow role x y link b rest l c d r role_is flow_is g s p =
 
 -- ---- an expiry
 
-clear_any : (flow : Flow) (role : Role) (rown own : Bool) (s : Stage) (rs : Bool) (n : Whole) (owed : List Body) (cause diagnostic : ℕ) (test : CallState → Bool) → rown ≡ false → test OwnClear ≡ false
+clear_any : (flow : Flow) (role : Role) (rown own : Bool) (s : Stage) (rs : Bool) (n : Whole) (owed : List Body) (cause diagnostic : ℕ) (test : ChannelState → Bool) → rown ≡ false → test OwnClear ≡ false
     → test (stored (in_any rown own s rs n)).state ≡ true → Laters (in_any rown own s rs n)
     → Act flow role (in_any rown own s rs n) owed (record (shown (stored (in_any rown own s rs n)) owed) { state = OwnClear; resetting = false; traffic = Rattle.data_transfer.specs.Traffic.fresh }) (Some (Clear cause diagnostic)) (λ st. next_use_of st)
 clear_any flow role true own s rs n owed cause diagnostic test r never e l = absurd (true≢false r)
@@ -259,7 +259,7 @@ runs_found test PacketReady None e = absurd (true≢false (sym e))
 runs_found test OwnRestart found e = absurd (true≢false (sym e))
 runs_found test NoSession found e = absurd (true≢false (sym e))
 
-expiry_here : (flow : Flow) (role : Role) (x y : Whole) (link b rest : List Body) (l : Layer) (c k : ℕ) (test : CallState → Bool) → test OwnClear ≡ false → x.own ≡ false → test (stored x).state ≡ true
+expiry_here : (flow : Flow) (role : Role) (x y : Whole) (link b rest : List Body) (l : Layer) (c k : ℕ) (test : ChannelState → Bool) → test OwnClear ≡ false → x.own ≡ false → test (stored x).state ≡ true
     → GoodWhole flow role (record { me = x; you = y; out = link ++ rest; back = b }) → Present l c x rest
     → Outcome flow role x y link b (on_found l c (λ ch. clear_error l.role k 0 true ch) (channel_of l c)) c (λ st. next_use_of st)
 expiry_here flow role x y link b rest l c k test never ready e g p =
@@ -268,7 +268,7 @@ expiry_here flow role x y link b rest l c k test never ready e g p =
     (clear_any flow role x.own x.now.own x.now.now.stage x.now.now.call.own x p.owed (error_cause l.role 19) 0 test ready never e (laters flow role x y (link ++ rest) b g)) g)
 
 -- the expiry of a timer of channel d that clears its call
-expiry_clears : (flow : Flow) (role : Role) (x y : Whole) (link b rest : List Body) (l : Layer) (c d : ℕ) (on_state : CallState → Bool) (test : Channel → Bool)
+expiry_clears : (flow : Flow) (role : Role) (x y : Whole) (link b rest : List Body) (l : Layer) (c d : ℕ) (on_state : ChannelState → Bool) (test : Channel → Bool)
     → ((ch : Channel) → test ch ≡ true → on_state ch.state ≡ true) → on_state OwnClear ≡ false → runs_at test l.phase (channel_of l d) ≡ true
     → GoodWhole flow role (record { me = x; you = y; out = link ++ rest; back = b }) → Settled x → Present l c x rest
     → Outcome flow role x y link b (on_found l d (λ ch. clear_error l.role d 0 true ch) (channel_of l d)) c (λ st. cond (c == d) (next_use_of st) st)

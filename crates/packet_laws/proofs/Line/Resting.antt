@@ -8,8 +8,8 @@ use Rattle.data_transfer.specs.Packets.{Body, Packet}
 use Rattle.data_transfer.specs.Traffic.{Traffic}
 use Rattle.packet_channel.specs.Channel.{Channel}
 use Rattle.packet_laws.specs.History.{Epoch, History}
-use Rattle.packet_laws.specs.Line.{Line}
-use Rattle.packet_laws.specs.Law.{Quiet, Together, AtRest, NothingMissing, epoch_now, listed}
+use Rattle.packet_laws.specs.LayerLine.{Line}
+use Rattle.packet_laws.specs.LayerLineLaw.{Quiet, Together, AtRest, NothingMissing, epoch_now, listed}
 use Rattle.packet_laws.proofs.Handshakes.Handshake.{Kind, Side, Two, at, Meets, Inv}
 use Rattle.packet_laws.proofs.Call.SetUp.{Stage, Pair, Idle}
 use Rattle.packet_laws.proofs.Call.SetUp.Stage.{Free, Placed, Waiting, Collided, Open}

@@ -5,15 +5,15 @@ use Rattle.data_transfer.specs.Packets.{CallParts, Datum, Body, Packet, Reason}
 use Rattle.data_transfer.specs.Packets.Body.{Call, Accepted, Data, ReceiveReady, Reset, Restart}
 use Rattle.data_transfer.specs.Packets.Note.{Incoming, Connected, Closed, Covered}
 use Rattle.link_timers.specs.declared.role.Role.TheVariants.{Dte, Dce}
-use Rattle.packet_channel.specs.Channel.{CallState, Refusal, closed_channel}
+use Rattle.packet_channel.specs.Channel.{ChannelState, Refusal, closed_channel}
 use Rattle.packet_channel.specs.Channel.Request.{Accept, Clearing, Resetting, Sending, Taking, Releasing}
 use Rattle.packet_layer.specs.Layer.{confirmed, request_refusal}
 use Rattle.packet_layer.specs.Layer.Timer.{ClearTimer}
 use Rattle.packet_laws.specs.History.{empty_epoch}
-use Rattle.packet_laws.specs.Line.{Line, Happening, start_line, no_parts, after, turned, next_of_session}
-use Rattle.packet_laws.specs.Line.Happening.{Here, There}
-use Rattle.packet_laws.specs.Line.Event.{Up, Calls, Requests, Expires, Offers, Arrives}
-use Rattle.packet_laws.specs.Law.{CallKnown, IsUnused, InUse}
+use Rattle.packet_laws.specs.LayerLine.{Line, Happening, start_line, no_parts, after, turned, next_of_session}
+use Rattle.packet_laws.specs.LayerLine.Happening.{Here, There}
+use Rattle.packet_laws.specs.LayerLine.Event.{Up, Calls, Requests, Expires, Offers, Arrives}
+use Rattle.packet_laws.specs.LayerLineLaw.{CallKnown, IsUnused, InUse}
 use Rattle.packet_laws.proofs.Line.LineHolds.{line_holds}
 
 abbrev packet : ℕ → Body → Packet
@@ -125,10 +125,10 @@ caller = refl
 callee_after_reset : ((run 4 resets).you.histories 1 4).epochs 0 0 1 ≡ record empty_epoch { answered = true }
 callee_after_reset = refl
 
-waits : InUse Dte CallState.OwnWaiting ((run 4 call_2001).me.histories 1 4)
+waits : InUse Dte ChannelState.OwnWaiting ((run 4 call_2001).me.histories 1 4)
 waits = record { parts = parts (2 ∷ 0 ∷ 0 ∷ 1 ∷ []); first = refl; placed = λ g. refl }
 
-is_called : InUse Dce CallState.FarWaiting ((run 4 call_2001).you.histories 1 4)
+is_called : InUse Dce ChannelState.FarWaiting ((run 4 call_2001).you.histories 1 4)
 is_called = record { first = refl; empty = λ g. refl }
 
 -- the DCE of a collision placed a call and accepted another one, which the DTE placed

@@ -5,8 +5,8 @@ use Rattle.link_timers.specs.declared.role.Role.{Role}
 use Rattle.data_transfer.specs.declared.flow.Flow.{Flow}
 use Rattle.data_transfer.specs.Packets.{CallParts, Body}
 use Rattle.data_transfer.specs.Traffic.{Traffic, Taken, Heard, fresh, front, may_release}
-use Rattle.packet_channel.specs.Channel.{CallState, Channel, Request}
-use Rattle.packet_channel.specs.Channel.CallState.{Ready, OwnWaiting, FarWaiting, Transfer, Collision, OwnClear}
+use Rattle.packet_channel.specs.Channel.{ChannelState, Channel, Request}
+use Rattle.packet_channel.specs.Channel.ChannelState.{Ready, OwnWaiting, FarWaiting, Transfer, Collision, OwnClear}
 use Rattle.packet_layer.specs.Layer.{Phase}
 use Rattle.packet_layer.specs.Layer.Phase.{OwnRestart, PacketReady}
 use Rattle.packet_laws.specs.History.{Epoch, History, is_now, grown, next_restart_of, next_epoch_of, in_whole_use, is_use, with_taken, logged, logged_heard}
@@ -18,7 +18,7 @@ use Rattle.packet_laws.proofs.Call.OneEpoch.{Inner, begun_epoch}
 use Rattle.packet_laws.proofs.Call.Levels.{Epochs, CallUse, Uses, Whole, first_epoch, first_call, first_use, GoodCall, GoodUses, GoodWhole}
 
 pub record Stored : Type 0 where
-  pub state : CallState
+  pub state : ChannelState
   pub resetting : Bool
   pub traffic : Traffic
 

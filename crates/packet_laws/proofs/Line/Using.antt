@@ -7,8 +7,8 @@ use Rattle.data_transfer.specs.declared.flow.Flow.{Flow}
 use Rattle.data_transfer.specs.Packets.{CallParts}
 use Rattle.packet_channel.specs.Channel.{Channel}
 use Rattle.packet_laws.specs.History.{Epoch, History, empty_epoch}
-use Rattle.packet_laws.specs.Line.{Line}
-use Rattle.packet_laws.specs.Law.{HasNoLogs, IsBegun, IsOneCall, IsUnused, HasPlaced, HasCall, InUse, HoldsAt}
+use Rattle.packet_laws.specs.LayerLine.{Line}
+use Rattle.packet_laws.specs.LayerLineLaw.{HasNoLogs, IsBegun, IsOneCall, IsUnused, HasPlaced, HasCall, InUse, HoldsAt}
 use Rattle.packet_laws.proofs.Handshakes.Handshake.{Side, at, inner}
 use Rattle.packet_laws.proofs.Call.SetUp.{Stage, Idle, Places, answers}
 use Rattle.packet_laws.proofs.Call.SetUp.Stage.{Free, Placed, Waiting, Collided, Open}

@@ -6,8 +6,8 @@ use Rattle.link_timers.specs.Role.{other_of}
 use Rattle.data_transfer.specs.declared.flow.Flow.{Flow}
 use Rattle.data_transfer.specs.Packets.{CallParts, Body}
 use Rattle.data_transfer.specs.Packets.Body.{Call, Accepted, Clear, ClearConfirmation, Data, Interrupt, InterruptConfirmation, ReceiveReady, ReceiveNotReady, Reset, ResetConfirmation, Restart, RestartConfirmation}
-use Rattle.packet_channel.specs.Channel.{CallState}
-use Rattle.packet_channel.specs.Channel.CallState.{Transfer}
+use Rattle.packet_channel.specs.Channel.{ChannelState}
+use Rattle.packet_channel.specs.Channel.ChannelState.{Transfer}
 use Rattle.packet_laws.proofs.Handshakes.Handshake.{Kind, AllPayload}
 use Rattle.packet_laws.proofs.Handshakes.Handshake.Kind.{Payload, Request, Confirmation}
 use Rattle.packet_laws.proofs.Call.SetUp.{Stage, Sort, sort, Pair, Passes, Path, Idle, flows}
@@ -188,7 +188,7 @@ no_reset_owed flow role x y m keep owed b g ready st s k is_flowing one_more f =
 
 -- ---- the packet may come
 
-abbrev Any : CallState → Bool → List Body → Type 0
+abbrev Any : ChannelState → Bool → List Body → Type 0
 Any s rs o = Unit {0}
 
 abbrev MayCome : Role → Whole → List Body → Body → Type 0

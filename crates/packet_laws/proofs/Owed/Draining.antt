@@ -5,8 +5,8 @@ use Rattle.link_timers.specs.declared.role.Role.{Role}
 use Rattle.data_transfer.specs.declared.flow.Flow.{Flow}
 use Rattle.data_transfer.specs.Packets.{Body}
 use Rattle.data_transfer.specs.Packets.Body.{Restart, RestartConfirmation}
-use Rattle.packet_channel.specs.Channel.{CallState, Channel, Step, received}
-use Rattle.packet_channel.specs.Channel.CallState.{Ready}
+use Rattle.packet_channel.specs.Channel.{ChannelState, Channel, Step, received}
+use Rattle.packet_channel.specs.Channel.ChannelState.{Ready}
 use Rattle.packet_laws.proofs.Handshakes.Handshake.{said, advanced, confirmed_side, AllPayload, SaysPayload}
 use Rattle.packet_laws.proofs.Handshakes.Handshake.Kind.{Payload}
 use Rattle.packet_laws.proofs.Call.Levels.{restart_kind, Uses, Whole, first_use, GoodWhole, whole_hears, whole_heard, whole_learns}
@@ -18,12 +18,12 @@ use Rattle.packet_laws.proofs.Owed.Fitting.{After, fits_comes, received_comes, r
 use Rattle.packet_laws.proofs.Owed.Barred.{may_come}
 
 -- outside r1 a channel is in p1 and owes nothing
-abbrev pub FitsIn : Bool → CallState → Bool → List Body → Type 0
+abbrev pub FitsIn : Bool → ChannelState → Bool → List Body → Type 0
 FitsIn true s rs o = Fits s rs o
 FitsIn false s rs o = (s ≡ Ready) × (rs ≡ false) × (o ≡ [])
 
 -- the end after the packet, and what was claimed of it
-pub record Next (flow : Flow) (role : Role) (y : Whole) (ts : List Body) (now : Type 0) (rest rest2 : Bool → CallState → Bool → List Body → Type 0) : Type 0 where
+pub record Next (flow : Flow) (role : Role) (y : Whole) (ts : List Body) (now : Type 0) (rest rest2 : Bool → ChannelState → Bool → List Body → Type 0) : Type 0 where
   pub next : Whole
   pub front : List Body
   pub owed : List Body
@@ -44,7 +44,7 @@ fits_first : (s : Uses) → s ≡ first_use → Fits (stored_whole false s).stat
 fits_first s e = subst (λ (u : Uses). Fits (stored_whole false u).state (stored_whole false u).resetting []) (sym e) (omega arith, tt)
 
 -- the own restart is confirmed
-confirmed_next : (flow : Flow) (role : Role) (x y : Whole) (out : List Body) (t : Body) (ts : List Body) (now : Type 0) (rest rest2 : Bool → CallState → Bool → List Body → Type 0) → IsRestart t → x.own ≡ true
+confirmed_next : (flow : Flow) (role : Role) (x y : Whole) (out : List Body) (t : Body) (ts : List Body) (now : Type 0) (rest rest2 : Bool → ChannelState → Bool → List Body → Type 0) → IsRestart t → x.own ≡ true
     → GoodWhole flow role (record { me = x; you = y; out = out; back = t ∷ ts }) → Settled x → rest true Ready false [] → (rest2 true Ready false [] → now) → Next flow role y ts now rest rest2
 confirmed_next flow role x y out t ts now rest rest2 r e g s h f =
     let first : x.now ≡ first_use = subst (λ (v : Bool). SettledWhole v x.now) e s in
@@ -63,7 +63,7 @@ confirmed_next flow role x y out t ts now rest rest2 r e g s h f =
     }
 
 -- the other end's restart is learnt
-learnt_next : (flow : Flow) (role : Role) (x y : Whole) (front owed : List Body) (c d : ℕ) (ts : List Body) (now : Type 0) (rest rest2 : Bool → CallState → Bool → List Body → Type 0) → x.own ≡ false → AllPayload restart_kind owed
+learnt_next : (flow : Flow) (role : Role) (x y : Whole) (front owed : List Body) (c d : ℕ) (ts : List Body) (now : Type 0) (rest rest2 : Bool → ChannelState → Bool → List Body → Type 0) → x.own ≡ false → AllPayload restart_kind owed
     → GoodWhole flow role (record { me = x; you = y; out = front ++ owed; back = Restart c d ∷ ts }) → rest true Ready false [] → (rest2 true Ready false [] → now) → Next flow role y ts now rest rest2
 learnt_next flow role x y front owed c d ts now rest rest2 e plain g h f = record {
   next = advanced first_use false x;
@@ -80,14 +80,14 @@ learnt_next flow role x y front owed c d ts now rest rest2 e plain g h f = recor
   turned = f;
 }
 
-discard_next : (flow : Flow) (role : Role) (x y : Whole) (front owed : List Body) (t : Body) (ts : List Body) (now : Type 0) (rest rest2 : Bool → CallState → Bool → List Body → Type 0) → restart_kind t ≡ Payload → x.own ≡ true
+discard_next : (flow : Flow) (role : Role) (x y : Whole) (front owed : List Body) (t : Body) (ts : List Body) (now : Type 0) (rest rest2 : Bool → ChannelState → Bool → List Body → Type 0) → restart_kind t ≡ Payload → x.own ≡ true
     → GoodWhole flow role (record { me = x; you = y; out = front ++ owed; back = t ∷ ts }) → AllPayload restart_kind owed → Settled x → FitsIn false (stored x).state (stored x).resetting owed
     → rest false (stored x).state (stored x).resetting owed → (rest2 false (stored x).state (stored x).resetting owed → now) → Next flow role y ts now rest rest2
 discard_next flow role x y front owed t ts now rest rest2 k e g plain s fits h f =
     record { next = x; front = front; owed = owed; ready = false; good = discard_good flow role x y (front ++ owed) ts t k e g; own_is = e; plain = plain; settled = s; fits = fits; comes = h; turned = f }
 
 -- a packet of the channel
-channel_next : (flow : Flow) (role : Role) (x y : Whole) (front owed : List Body) (t : Body) (ts : List Body) (now : Type 0) (rest rest2 : Bool → CallState → Bool → List Body → Type 0) → restart_kind t ≡ Payload → x.own ≡ false
+channel_next : (flow : Flow) (role : Role) (x y : Whole) (front owed : List Body) (t : Body) (ts : List Body) (now : Type 0) (rest rest2 : Bool → ChannelState → Bool → List Body → Type 0) → restart_kind t ≡ Payload → x.own ≡ false
     → GoodWhole flow role (record { me = x; you = y; out = front ++ owed; back = t ∷ ts }) → AllPayload restart_kind owed → Settled x → Fits (stored x).state (stored x).resetting owed
     → Comes role (stored x).state (stored x).resetting owed t (λ s rs o. rest true s rs o) → (Comes role (stored x).state (stored x).resetting owed t (λ s rs o. rest2 true s rs o) → now) → Next flow role y ts now rest rest2
 channel_next flow role x y front owed t ts now rest rest2 k e g plain s fits h f =
@@ -118,7 +118,7 @@ channel_next flow role x y front owed t ts now rest rest2 k e g plain s fits h f
           (subst (λ (o : Option Body). rest2 true (stored x').state (stored x').resetting (said o owed)) (sym ties.owes_is) h')));
     }
 
-hears_next : (flow : Flow) (role : Role) (ready : Bool) (x y : Whole) (front owed : List Body) (t : Body) (ts : List Body) (rest rest2 : Bool → CallState → Bool → List Body → Type 0) → x.own ≡ not ready
+hears_next : (flow : Flow) (role : Role) (ready : Bool) (x y : Whole) (front owed : List Body) (t : Body) (ts : List Body) (rest rest2 : Bool → ChannelState → Bool → List Body → Type 0) → x.own ≡ not ready
     → GoodWhole flow role (record { me = x; you = y; out = front ++ owed; back = t ∷ ts }) → AllPayload restart_kind owed → Settled x → FitsIn ready (stored x).state (stored x).resetting owed
     → Hears role (restart_kind t) ready (stored x).state (stored x).resetting owed t rest → Next flow role y ts (Hears role (restart_kind t) ready (stored x).state (stored x).resetting owed t rest2) rest rest2
 hears_next flow role true x y front owed (Restart c d) ts rest rest2 e g plain s fits h = learnt_next flow role x y front owed c d ts _ rest rest2 e plain g h (λ h'. h')

@@ -7,9 +7,9 @@ use Rattle.data_transfer.specs.Packets.{Body}
 use Rattle.data_transfer.specs.Packets.Body.{Call, Accepted, Clear, ClearConfirmation, Data, Interrupt, InterruptConfirmation, ReceiveReady, ReceiveNotReady, Reset, ResetConfirmation}
 use Rattle.data_transfer.specs.Traffic.{Traffic, Heard, hears}
 use Rattle.data_transfer.specs.Traffic.Heard.{Keeps, Confirms, Wrong}
-use Rattle.packet_channel.specs.Channel.{CallState, Channel, Step, received, after_heard}
-use Rattle.packet_channel.specs.Channel.CallState.{Ready, OwnWaiting, FarWaiting, Transfer, Collision, OwnClear}
-use Rattle.packet_laws.specs.Law.{is_request}
+use Rattle.packet_channel.specs.Channel.{ChannelState, Channel, Step, received, after_heard}
+use Rattle.packet_channel.specs.Channel.ChannelState.{Ready, OwnWaiting, FarWaiting, Transfer, Collision, OwnClear}
+use Rattle.packet_laws.specs.LayerLineLaw.{is_request}
 use Rattle.packet_laws.proofs.Handshakes.Handshake.{said}
 use Rattle.packet_laws.proofs.Owed.MayCome.{is_accepted, has_accepted, resets, Comes, IsClear, Ended, Resetting, Placing, Fits, ended_last, longer_by, none_in, resets_push, few_three}
 
@@ -53,7 +53,7 @@ few_call rs o f = few_three Transfer rs o f (λ e. let n : ⊥ = cc in n) (λ e.
 
 -- ---- what comes
 
-pub fits_comes : (r : Role) (s : CallState) (rs : Bool) (o : List Body) (t : Body) (rest : CallState → Bool → List Body → Type 0) → Fits s rs o → Comes r s rs o t rest → Comes r s rs o t (λ s' rs' o'. Fits s' rs' o' × rest s' rs' o')
+pub fits_comes : (r : Role) (s : ChannelState) (rs : Bool) (o : List Body) (t : Body) (rest : ChannelState → Bool → List Body → Type 0) → Fits s rs o → Comes r s rs o t rest → Comes r s rs o t (λ s' rs' o'. Fits s' rs' o' × rest s' rs' o')
 fits_comes r Ready false o (Call p) rest f h = (h.0, (h.0, h.1))
 fits_comes r Ready false o (Clear x y) rest f h = (h.0, (closing o ClearConfirmation tt (nothing_few o h.0), h.1))
 fits_comes r Ready false o _ rest f h = absurd h
@@ -89,20 +89,20 @@ fits_comes r OwnClear true o t rest f h = absurd f
 
 -- ---- the layer's step is that
 
-abbrev pub channel_with : CallState → Bool → List Body → Traffic → Channel
+abbrev pub channel_with : ChannelState → Bool → List Body → Traffic → Channel
 channel_with s rs o tr = record { state = s; resetting = rs; owed = o; traffic = tr }
 
 -- after a step, all that is owed counted
-abbrev pub After : Step → (CallState → Bool → List Body → Type 0) → Type 0
+abbrev pub After : Step → (ChannelState → Bool → List Body → Type 0) → Type 0
 After st rest = rest st.channel.state st.channel.resetting (said st.owes st.channel.owed)
 
-heard_after : (role : Role) (c : ℕ) (o : List Body) (tr : Traffic) (h : Heard) (rest : CallState → Bool → List Body → Type 0) → is_request (after_heard role c (channel_with Transfer false o tr) h).owes ≡ false
+heard_after : (role : Role) (c : ℕ) (o : List Body) (tr : Traffic) (h : Heard) (rest : ChannelState → Bool → List Body → Type 0) → is_request (after_heard role c (channel_with Transfer false o tr) h).owes ≡ false
     → rest Transfer false o → After (after_heard role c (channel_with Transfer false o tr) h) rest
 heard_after role c o tr (Keeps n t) rest e h = h
 heard_after role c o tr (Confirms t) rest e h = h
 heard_after role c o tr (Wrong d) rest e h = absurd (true≢false e)
 
-pub received_comes : (role : Role) (flow : Flow) (c : ℕ) (s : CallState) (rs : Bool) (o : List Body) (tr : Traffic) (b : Body) (rest : CallState → Bool → List Body → Type 0) → is_request (received role flow c (channel_with s rs o tr) b).owes ≡ false
+pub received_comes : (role : Role) (flow : Flow) (c : ℕ) (s : ChannelState) (rs : Bool) (o : List Body) (tr : Traffic) (b : Body) (rest : ChannelState → Bool → List Body → Type 0) → is_request (received role flow c (channel_with s rs o tr) b).owes ≡ false
     → Comes role s rs o b rest → After (received role flow c (channel_with s rs o tr) b) rest
 received_comes role flow c Ready rs o tr (Call p) rest e h = h.1
 received_comes role flow c Ready rs o tr (Clear x y) rest e h = h.1
@@ -138,14 +138,14 @@ received_comes role flow c Transfer false o tr (ReceiveReady n) rest e h = heard
 received_comes role flow c Transfer false o tr (ReceiveNotReady n) rest e h = heard_after role c o tr (hears flow tr (ReceiveNotReady n)) rest e h
 received_comes role flow c Transfer false o tr _ rest e h = absurd h
 
-heard_back : (role : Role) (c : ℕ) (o : List Body) (tr : Traffic) (h : Heard) (rest : CallState → Bool → List Body → Type 0) → is_request (after_heard role c (channel_with Transfer false o tr) h).owes ≡ false
+heard_back : (role : Role) (c : ℕ) (o : List Body) (tr : Traffic) (h : Heard) (rest : ChannelState → Bool → List Body → Type 0) → is_request (after_heard role c (channel_with Transfer false o tr) h).owes ≡ false
     → After (after_heard role c (channel_with Transfer false o tr) h) rest → rest Transfer false o
 heard_back role c o tr (Keeps n t) rest e h = h
 heard_back role c o tr (Confirms t) rest e h = h
 heard_back role c o tr (Wrong d) rest e h = absurd (true≢false e)
 
 -- and what holds after the layer's step holds after the packet
-pub received_back : (role : Role) (flow : Flow) (c : ℕ) (s : CallState) (rs : Bool) (o : List Body) (tr : Traffic) (b : Body) (rest rest2 : CallState → Bool → List Body → Type 0) → is_request (received role flow c (channel_with s rs o tr) b).owes ≡ false
+pub received_back : (role : Role) (flow : Flow) (c : ℕ) (s : ChannelState) (rs : Bool) (o : List Body) (tr : Traffic) (b : Body) (rest rest2 : ChannelState → Bool → List Body → Type 0) → is_request (received role flow c (channel_with s rs o tr) b).owes ≡ false
     → Comes role s rs o b rest → After (received role flow c (channel_with s rs o tr) b) rest2 → Comes role s rs o b rest2
 received_back role flow c Ready rs o tr (Call p) rest rest2 e h k = (h.0, k)
 received_back role flow c Ready rs o tr (Clear x y) rest rest2 e h k = (h.0, k)

@@ -5,8 +5,8 @@ use Rattle.link_timers.specs.declared.role.Role.{Role}
 use Rattle.link_timers.specs.declared.role.Role.TheVariants.{Dte, Dce}
 use Rattle.data_transfer.specs.Packets.{CallParts, Body, Reason}
 use Rattle.data_transfer.specs.Packets.Body.{Restart}
-use Rattle.packet_channel.specs.Channel.{CallState, Channel, Step, Request, requested, clear_error, closed_channel, in_transfer, error_cause}
-use Rattle.packet_channel.specs.Channel.CallState.{Ready, OwnWaiting, FarWaiting, Transfer, Collision, OwnClear}
+use Rattle.packet_channel.specs.Channel.{ChannelState, Channel, Step, Request, requested, clear_error, closed_channel, in_transfer, error_cause}
+use Rattle.packet_channel.specs.Channel.ChannelState.{Ready, OwnWaiting, FarWaiting, Transfer, Collision, OwnClear}
 use Rattle.packet_layer.specs.Layer.{Phase, Layer, Timer, channel_of, after_step, owing, on_found, with_owed, passes_limit, set_if, is_full, unread, restarting, all_closed, placing, placed_on, call, channel_given, is_free, is_ready, request, runs, runs_at, expired, on_timer, waits_for_call, waits_for_clear}
 use Rattle.packet_layer.specs.Layer.Phase.{NoSession, PacketReady}
 use Rattle.packet_layer.specs.Layer.Timer.{RestartTimer, CallTimer, ResetTimer, ClearTimer}
@@ -21,7 +21,7 @@ use Rattle.packet_laws.proofs.Owed.Turning.{Acts, MayEnd, request_acts, clear_ac
 
 -- ---- how much is owed
 
-fits_four : (ready : Bool) (s : CallState) (rs : Bool) (o : List Body) → FitsIn ready s rs o → length o ≤ 4
+fits_four : (ready : Bool) (s : ChannelState) (rs : Bool) (o : List Body) → FitsIn ready s rs o → length o ≤ 4
 fits_four false s rs o f = let l = ap (λ (q : List Body). length q) f.2 in omega arith
 fits_four true Ready false o f = f.0
 fits_four true OwnClear false o f = f.0
@@ -156,7 +156,7 @@ request_event role l d r is rl fits =
     subst (λ (q : Role). LayerEvent role l (on_found l d (λ ch. requested q l.flow ch r) (channel_of l d))) (sym is)
     (found_event role l d (λ ch. requested role l.flow ch r) rl fits (λ ch e ts. request_acts role l.flow (is_r1 l.phase) ch.state ch.resetting ch.owed ch.traffic r ts (fits d ch e)))
 
-ready_is : (s : CallState) → is_ready s ≡ true → s ≡ Ready
+ready_is : (s : ChannelState) → is_ready s ≡ true → s ≡ Ready
 ready_is Ready e = refl
 ready_is OwnWaiting e = absurd (true≢false (sym e))
 ready_is FarWaiting e = absurd (true≢false (sym e))
@@ -168,10 +168,10 @@ empty_is : (o : List Body) → length o ≡ 0 → o ≡ []
 empty_is [] e = refl
 empty_is (b ∷ o) e = let no : ⊥ = omega arith in absurd no
 
-placed_acts : (role : Role) (s : CallState) (rs : Bool) (ch : Channel) (parts : CallParts) (ts : List Body) → s ≡ Ready → ch.state ≡ s → ch.owed ≡ [] → Fits ch.state ch.resetting ch.owed → Acts role true ch.state ch.resetting ch.owed (placing parts ch) ts ts
+placed_acts : (role : Role) (s : ChannelState) (rs : Bool) (ch : Channel) (parts : CallParts) (ts : List Body) → s ≡ Ready → ch.state ≡ s → ch.owed ≡ [] → Fits ch.state ch.resetting ch.owed → Acts role true ch.state ch.resetting ch.owed (placing parts ch) ts ts
 placed_acts role s rs ch parts ts e is o f =
-    subst (λ (q : CallState). Acts role true q ch.resetting ch.owed (placing parts (record ch { state = q })) ts ts) (sym (is ∙ e))
-    (place_acts role ch.resetting ch.owed ch.traffic parts ts o (subst (λ (q : CallState). Fits q ch.resetting ch.owed) (is ∙ e) f))
+    subst (λ (q : ChannelState). Acts role true q ch.resetting ch.owed (placing parts (record ch { state = q })) ts ts) (sym (is ∙ e))
+    (place_acts role ch.resetting ch.owed ch.traffic parts ts o (subst (λ (q : ChannelState). Fits q ch.resetting ch.owed) (is ∙ e) f))
 
 placed_event : (role : Role) (l : Layer) (parts : CallParts) (o : Option ℕ) → l.relink ≡ false → AllFit l → ((d : ℕ) → o ≡ Some d → (l.phase ≡ PacketReady) × Freed l.channels d) → LayerEvent role l (placed_on l parts o)
 placed_event role l parts None rl fits h = same_event role l rl fits
@@ -225,7 +225,7 @@ unread_event role l l' e = record {
   turned = λ c ch ts found. let t = e.turned c ch ts found in record { next = t.next; found = t.found; fits = t.fits; comes = t.comes; grown = t.grown };
 }
 
-waiting_ends : (role : Role) (s : CallState) → waits_for_call role s ≡ true → MayEnd s
+waiting_ends : (role : Role) (s : ChannelState) → waits_for_call role s ≡ true → MayEnd s
 waiting_ends role OwnWaiting e = tt
 waiting_ends Dte Collision e = tt
 waiting_ends Dce Collision e = absurd (true≢false (sym e))
@@ -236,7 +236,7 @@ waiting_ends Dce Ready e = absurd (true≢false (sym e))
 waiting_ends Dte OwnClear e = absurd (true≢false (sym e))
 waiting_ends Dce OwnClear e = absurd (true≢false (sym e))
 
-transfer_ends : (s : CallState) → in_transfer s ≡ true → MayEnd s
+transfer_ends : (s : ChannelState) → in_transfer s ≡ true → MayEnd s
 transfer_ends Transfer e = tt
 transfer_ends OwnWaiting e = tt
 transfer_ends FarWaiting e = tt

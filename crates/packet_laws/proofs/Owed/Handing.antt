@@ -5,8 +5,8 @@ use Rattle.link_timers.specs.declared.role.Role.{Role}
 use Rattle.data_transfer.specs.declared.flow.Flow.{Flow}
 use Rattle.data_transfer.specs.Packets.{Body, Packet}
 use Rattle.data_transfer.specs.Traffic.{says}
-use Rattle.packet_channel.specs.Channel.{CallState, Channel, has_flow, moved}
-use Rattle.packet_channel.specs.Channel.CallState.{Ready, OwnWaiting, FarWaiting, Transfer, Collision, OwnClear}
+use Rattle.packet_channel.specs.Channel.{ChannelState, Channel, has_flow, moved}
+use Rattle.packet_channel.specs.Channel.ChannelState.{Ready, OwnWaiting, FarWaiting, Transfer, Collision, OwnClear}
 use Rattle.packet_layer.specs.Layer.{Layer, Next, ChannelNext, channel_of, with_nth, next_packet, next_of, next_owed, packet_of}
 use Rattle.packet_laws.proofs.Handshakes.Handshake.{Kind}
 use Rattle.packet_laws.proofs.Handshakes.Handshake.Kind.{Payload, Request, Confirmation}
@@ -47,7 +47,7 @@ after_fits rs t h = let a = h.short in let b = h.counted in inl (record { no_acc
 placing_tail : (b : Body) (o : List Body) → Placing (b ∷ o) → Placing o
 placing_tail b o f = let a = f.no_resets in let l = f.short in record { no_acceptance = second (is_accepted b) (has_accepted o) f.no_acceptance; no_resets = omega arith; short = omega arith }
 
-fits_tail : (s : CallState) (rs : Bool) (b : Body) (o : List Body) → Fits s rs (b ∷ o) → Fits s rs o
+fits_tail : (s : ChannelState) (rs : Bool) (b : Body) (o : List Body) → Fits s rs (b ∷ o) → Fits s rs o
 fits_tail Ready false b o f = let l = f.0 in (omega arith, ended_tail b o f.1)
 fits_tail OwnClear false b o f = let l = f.0 in (omega arith, ended_tail b o f.1)
 fits_tail OwnWaiting false b o f = placing_tail b o f
@@ -66,7 +66,7 @@ fits_tail OwnWaiting true b o f = absurd f
 fits_tail Collision true b o f = absurd f
 fits_tail FarWaiting true b o f = absurd f
 
-looser_tail : (r : Role) (s : CallState) (rs : Bool) (b : Body) (o : List Body) → Looser r s rs (b ∷ o) s rs o
+looser_tail : (r : Role) (s : ChannelState) (rs : Bool) (b : Body) (o : List Body) → Looser r s rs (b ∷ o) s rs o
 looser_tail r Ready rs b o = λ e. absurd (no_cons b o e)
 looser_tail r OwnClear rs b o = λ e. absurd (no_cons b o e)
 looser_tail r OwnWaiting rs b o = (refl, no_more_tail b o)
@@ -75,11 +75,11 @@ looser_tail r FarWaiting rs b o = tt
 looser_tail r Transfer true b o = no_more_tail b o
 looser_tail r Transfer false b o = no_more_tail b o
 
-fits_in_tail : (ready : Bool) (s : CallState) (rs : Bool) (b : Body) (o : List Body) → FitsIn ready s rs (b ∷ o) → FitsIn ready s rs o
+fits_in_tail : (ready : Bool) (s : ChannelState) (rs : Bool) (b : Body) (o : List Body) → FitsIn ready s rs (b ∷ o) → FitsIn ready s rs o
 fits_in_tail true s rs b o f = fits_tail s rs b o f
 fits_in_tail false s rs b o f = absurd (no_cons b o f.2)
 
-all_tail : (r : Role) (ready : Bool) (s : CallState) (rs : Bool) (b : Body) (o ts : List Body) → FitsIn ready s rs (b ∷ o) → AllCome r ready s rs (b ∷ o) ts → AllCome r ready s rs o ts
+all_tail : (r : Role) (ready : Bool) (s : ChannelState) (rs : Bool) (b : Body) (o ts : List Body) → FitsIn ready s rs (b ∷ o) → AllCome r ready s rs (b ∷ o) ts → AllCome r ready s rs o ts
 all_tail r true s rs b o ts f h = all_looser r s rs (b ∷ o) s rs o ts (looser_tail r s rs b o) h
 all_tail r false s rs b o ts f h = absurd (no_cons b o f.2)
 
@@ -158,8 +158,8 @@ handed_traffic role l c ch ch' q found is is' e_s e_r f e = record {
       (subst (λ (o : List Body). Grown [] (o ++ [])) (sym (one_packet c q)) (pushed_grown q))));
 }
   where
-    turn : (P : CallState → Bool → List Body → Type 0) → P ch.state ch.resetting ch.owed → P ch'.state ch'.resetting ch'.owed
-    turn P h = subst (λ (s : CallState). P s ch'.resetting ch'.owed) (sym e_s) (subst (λ (v : Bool). P ch.state v ch'.owed) (sym e_r) (subst (λ (o : List Body). P ch.state ch.resetting o) (is ∙ sym is') h))
+    turn : (P : ChannelState → Bool → List Body → Type 0) → P ch.state ch.resetting ch.owed → P ch'.state ch'.resetting ch'.owed
+    turn P h = subst (λ (s : ChannelState). P s ch'.resetting ch'.owed) (sym e_s) (subst (λ (v : Bool). P ch.state v ch'.owed) (sym e_r) (subst (λ (o : List Body). P ch.state ch.resetting o) (is ∙ sym is') h))
 
 -- the channel's next packet
 abbrev here_next : Layer → ℕ → ChannelNext → Next

@@ -4,8 +4,8 @@ use Rattle.link_timers.specs.declared.role.Role.{Role}
 use Rattle.link_timers.specs.declared.role.Role.TheVariants.{Dte, Dce}
 use Rattle.data_transfer.specs.Packets.{Body}
 use Rattle.data_transfer.specs.Packets.Body.{Call, Accepted, Clear, ClearConfirmation, Data, Interrupt, InterruptConfirmation, ReceiveReady, ReceiveNotReady, Reset, ResetConfirmation}
-use Rattle.packet_channel.specs.Channel.{CallState}
-use Rattle.packet_channel.specs.Channel.CallState.{Ready, OwnWaiting, FarWaiting, Transfer, Collision, OwnClear}
+use Rattle.packet_channel.specs.Channel.{ChannelState}
+use Rattle.packet_channel.specs.Channel.ChannelState.{Ready, OwnWaiting, FarWaiting, Transfer, Collision, OwnClear}
 use Rattle.packet_laws.proofs.Handshakes.Handshake.{Kind}
 use Rattle.packet_laws.proofs.Handshakes.Handshake.Kind.{Payload, Request, Confirmation}
 use Rattle.packet_laws.proofs.Call.Levels.{restart_kind}
@@ -22,7 +22,7 @@ abbrev pub Emptier : List Body → List Body → Type 0
 Emptier o o' = o ≡ [] → o' ≡ []
 
 -- all that may come to the first one may come to the second one
-abbrev pub Looser : Role → CallState → Bool → List Body → CallState → Bool → List Body → Type 0
+abbrev pub Looser : Role → ChannelState → Bool → List Body → ChannelState → Bool → List Body → Type 0
 Looser r Ready rs o Ready rs' o' = Emptier o o'
 Looser r Ready rs o OwnWaiting rs' o' = Unit {0}
 Looser r OwnWaiting rs o OwnWaiting rs' o' = (rs' ≡ rs) × NoMore o o'
@@ -51,33 +51,33 @@ never_empty : (o p : List Body) (b : Body) → Emptier (o ++ b ∷ []) p
 never_empty o p b e = absurd (not_nil o b e)
 
 -- what follows for the two channels after the packet
-abbrev Follows : Role → (CallState → Bool → List Body → Type 0) → (CallState → Bool → List Body → Type 0) → Type 0
-Follows r rest rest' = (s : CallState) (rs : Bool) (o : List Body) (s' : CallState) (rs' : Bool) (o' : List Body) → Looser r s rs o s' rs' o' → rest s rs o → rest' s' rs' o'
+abbrev Follows : Role → (ChannelState → Bool → List Body → Type 0) → (ChannelState → Bool → List Body → Type 0) → Type 0
+Follows r rest rest' = (s : ChannelState) (rs : Bool) (o : List Body) (s' : ChannelState) (rs' : Bool) (o' : List Body) → Looser r s rs o s' rs' o' → rest s rs o → rest' s' rs' o'
 
-loose_ready : (r : Role) (rs : Bool) (o : List Body) (rs' : Bool) (o' : List Body) (t : Body) (rest rest' : CallState → Bool → List Body → Type 0) → Follows r rest rest' → Emptier o o' → Comes r Ready rs o t rest → Comes r Ready rs' o' t rest'
+loose_ready : (r : Role) (rs : Bool) (o : List Body) (rs' : Bool) (o' : List Body) (t : Body) (rest rest' : ChannelState → Bool → List Body → Type 0) → Follows r rest rest' → Emptier o o' → Comes r Ready rs o t rest → Comes r Ready rs' o' t rest'
 loose_ready r rs o rs' o' (Call p) rest rest' k l h = (l h.0, k FarWaiting rs o FarWaiting rs' o' tt h.1)
 loose_ready r rs o rs' o' (Clear x y) rest rest' k l h = (l h.0, k Ready rs (o ++ ClearConfirmation ∷ []) Ready rs' (o' ++ ClearConfirmation ∷ []) (never_empty o (o' ++ ClearConfirmation ∷ []) ClearConfirmation) h.1)
 loose_ready r rs o rs' o' _ rest rest' k l h = absurd h
 
-loose_call : (r : Role) (rs : Bool) (o : List Body) (rs' : Bool) (o' : List Body) (t : Body) (rest rest' : CallState → Bool → List Body → Type 0) → Follows r rest rest' → Comes r Ready rs o t rest → Comes r OwnWaiting rs' o' t rest'
+loose_call : (r : Role) (rs : Bool) (o : List Body) (rs' : Bool) (o' : List Body) (t : Body) (rest rest' : ChannelState → Bool → List Body → Type 0) → Follows r rest rest' → Comes r Ready rs o t rest → Comes r OwnWaiting rs' o' t rest'
 loose_call r rs o rs' o' (Call p) rest rest' k h = k FarWaiting rs o Collision rs' o' tt h.1
 loose_call r rs o rs' o' (Clear x y) rest rest' k h = k Ready rs (o ++ ClearConfirmation ∷ []) Ready false (o' ++ ClearConfirmation ∷ []) (never_empty o (o' ++ ClearConfirmation ∷ []) ClearConfirmation) h.1
 loose_call r rs o rs' o' _ rest rest' k h = absurd h
 
-loose_placed : (r : Role) (rs : Bool) (o : List Body) (rs' : Bool) (o' : List Body) (t : Body) (rest rest' : CallState → Bool → List Body → Type 0) → Follows r rest rest' → (rs' ≡ rs) × NoMore o o' → Comes r OwnWaiting rs o t rest → Comes r OwnWaiting rs' o' t rest'
+loose_placed : (r : Role) (rs : Bool) (o : List Body) (rs' : Bool) (o' : List Body) (t : Body) (rest rest' : ChannelState → Bool → List Body → Type 0) → Follows r rest rest' → (rs' ≡ rs) × NoMore o o' → Comes r OwnWaiting rs o t rest → Comes r OwnWaiting rs' o' t rest'
 loose_placed r rs o rs' o' (Call p) rest rest' k l h = k Collision rs o Collision rs' o' l h
 loose_placed r rs o rs' o' Accepted rest rest' k l h = k Transfer rs o Transfer rs' o' (same_transfer r rs rs' o o' l.0 l.1) h
 loose_placed r rs o rs' o' (Clear x y) rest rest' k l h = k Ready false (o ++ ClearConfirmation ∷ []) Ready false (o' ++ ClearConfirmation ∷ []) (never_empty o (o' ++ ClearConfirmation ∷ []) ClearConfirmation) h
 loose_placed r rs o rs' o' _ rest rest' k l h = absurd h
 
-loose_collided : (r : Role) (rs : Bool) (o : List Body) (rs' : Bool) (o' : List Body) (t : Body) (rest rest' : CallState → Bool → List Body → Type 0) → Follows r rest rest' → (rs' ≡ rs) × NoMore o o' → Comes r Collision rs o t rest → Comes r Collision rs' o' t rest'
+loose_collided : (r : Role) (rs : Bool) (o : List Body) (rs' : Bool) (o' : List Body) (t : Body) (rest rest' : ChannelState → Bool → List Body → Type 0) → Follows r rest rest' → (rs' ≡ rs) × NoMore o o' → Comes r Collision rs o t rest → Comes r Collision rs' o' t rest'
 loose_collided Dte rs o rs' o' Accepted rest rest' k l h = k Transfer rs o Transfer rs' o' (same_transfer Dte rs rs' o o' l.0 l.1) h
 loose_collided Dce rs o rs' o' Accepted rest rest' k l h = absurd h
 loose_collided r rs o rs' o' (Clear x y) rest rest' k l h = k Ready false (o ++ ClearConfirmation ∷ []) Ready false (o' ++ ClearConfirmation ∷ []) (never_empty o (o' ++ ClearConfirmation ∷ []) ClearConfirmation) h
 loose_collided r rs o rs' o' _ rest rest' k l h = absurd h
 
 -- only a clear may come to the first one
-loose_waiting : (r : Role) (rs : Bool) (o : List Body) (s' : CallState) (rs' : Bool) (o' : List Body) (t : Body) (rest rest' : CallState → Bool → List Body → Type 0) → Follows r rest rest' → Looser r FarWaiting rs o s' rs' o' → Comes r FarWaiting rs o t rest → Comes r s' rs' o' t rest'
+loose_waiting : (r : Role) (rs : Bool) (o : List Body) (s' : ChannelState) (rs' : Bool) (o' : List Body) (t : Body) (rest rest' : ChannelState → Bool → List Body → Type 0) → Follows r rest rest' → Looser r FarWaiting rs o s' rs' o' → Comes r FarWaiting rs o t rest → Comes r s' rs' o' t rest'
 loose_waiting r rs o FarWaiting rs' o' (Clear x y) rest rest' k l h = k Ready false (o ++ ClearConfirmation ∷ []) Ready false (o' ++ ClearConfirmation ∷ []) (never_empty o (o' ++ ClearConfirmation ∷ []) ClearConfirmation) h
 loose_waiting r rs o Collision rs' o' (Clear x y) rest rest' k l h = k Ready false (o ++ ClearConfirmation ∷ []) Ready false (o' ++ ClearConfirmation ∷ []) (never_empty o (o' ++ ClearConfirmation ∷ []) ClearConfirmation) h
 loose_waiting r rs o Transfer rs' o' (Clear x y) rest rest' k l h = k Ready false (o ++ ClearConfirmation ∷ []) Ready false (o' ++ ClearConfirmation ∷ []) (never_empty o (o' ++ ClearConfirmation ∷ []) ClearConfirmation) h
@@ -86,13 +86,13 @@ loose_waiting r rs o Ready rs' o' t rest rest' k l h = absurd l
 loose_waiting r rs o OwnWaiting rs' o' t rest rest' k l h = absurd l
 loose_waiting r rs o s' rs' o' _ rest rest' k l h = absurd h
 
-loose_accepted : (r : Role) (rs : Bool) (o : List Body) (rs' : Bool) (o' : List Body) (t : Body) (rest rest' : CallState → Bool → List Body → Type 0) → Follows r rest rest' → r ≡ Dce → Comes r Collision rs o t rest → Comes r Transfer rs' o' t rest'
+loose_accepted : (r : Role) (rs : Bool) (o : List Body) (rs' : Bool) (o' : List Body) (t : Body) (rest rest' : ChannelState → Bool → List Body → Type 0) → Follows r rest rest' → r ≡ Dce → Comes r Collision rs o t rest → Comes r Transfer rs' o' t rest'
 loose_accepted Dte rs o rs' o' t rest rest' k l h = absurd cc
 loose_accepted Dce rs o rs' o' (Clear x y) rest rest' k l h = k Ready false (o ++ ClearConfirmation ∷ []) Ready false (o' ++ ClearConfirmation ∷ []) (never_empty o (o' ++ ClearConfirmation ∷ []) ClearConfirmation) h
 loose_accepted Dce rs o rs' o' _ rest rest' k l h = absurd h
 
 -- to an end that clears everything may come
-loose_cleared : (r : Role) (s : CallState) (rs : Bool) (o : List Body) (rs' : Bool) (o' : List Body) (t : Body) (rest rest' : CallState → Bool → List Body → Type 0) → Follows r rest rest' → Looser r s rs o OwnClear rs' o' → Comes r s rs o t rest → Comes r OwnClear rs' o' t rest'
+loose_cleared : (r : Role) (s : ChannelState) (rs : Bool) (o : List Body) (rs' : Bool) (o' : List Body) (t : Body) (rest rest' : ChannelState → Bool → List Body → Type 0) → Follows r rest rest' → Looser r s rs o OwnClear rs' o' → Comes r s rs o t rest → Comes r OwnClear rs' o' t rest'
 loose_cleared r OwnClear rs o rs' o' (Clear x y) rest rest' k l h = k Ready rs o Ready rs' o' l h
 loose_cleared r OwnClear rs o rs' o' ClearConfirmation rest rest' k l h = k Ready rs o Ready rs' o' l h
 loose_cleared r OwnClear rs o rs' o' _ rest rest' k l h = k OwnClear rs o OwnClear rs' o' l h
@@ -135,7 +135,7 @@ none_left a b p q = omega arith
 one_left : (a b : ℕ) → a ≤ b + 1 → b ≡ 0 → a ≤ 1
 one_left a b p q = omega arith
 
-loose_open : (r : Role) (o o' : List Body) (t : Body) (rest rest' : CallState → Bool → List Body → Type 0) → Follows r rest rest' → NoMore o o' → Comes r Transfer false o t rest → Comes r Transfer false o' t rest'
+loose_open : (r : Role) (o o' : List Body) (t : Body) (rest rest' : ChannelState → Bool → List Body → Type 0) → Follows r rest rest' → NoMore o o' → Comes r Transfer false o t rest → Comes r Transfer false o' t rest'
 loose_open r o o' (Clear x y) rest rest' k l h = k Ready false (o ++ ClearConfirmation ∷ []) Ready false (o' ++ ClearConfirmation ∷ []) (never_empty o (o' ++ ClearConfirmation ∷ []) ClearConfirmation) h
 loose_open r o o' (Reset x y) rest rest' k l h = (l.0 h.0, none_left (resets o') (resets o) l.1 h.1, k Transfer false (o ++ ResetConfirmation ∷ []) Transfer false (o' ++ ResetConfirmation ∷ []) (both_learn o o' l h.0) h.2)
 loose_open r o o' (Data s n d) rest rest' k l h = k Transfer false o Transfer false o' l h
@@ -145,7 +145,7 @@ loose_open r o o' (ReceiveReady n) rest rest' k l h = k Transfer false o Transfe
 loose_open r o o' (ReceiveNotReady n) rest rest' k l h = k Transfer false o Transfer false o' l h
 loose_open r o o' _ rest rest' k l h = absurd h
 
-loose_reset : (r : Role) (o o' : List Body) (t : Body) (rest rest' : CallState → Bool → List Body → Type 0) → Follows r rest rest' → NoMore o o' → Comes r Transfer true o t rest → Comes r Transfer true o' t rest'
+loose_reset : (r : Role) (o o' : List Body) (t : Body) (rest rest' : ChannelState → Bool → List Body → Type 0) → Follows r rest rest' → NoMore o o' → Comes r Transfer true o t rest → Comes r Transfer true o' t rest'
 loose_reset r o o' (Clear x y) rest rest' k l h = k Ready false (o ++ ClearConfirmation ∷ []) Ready false (o' ++ ClearConfirmation ∷ []) (never_empty o (o' ++ ClearConfirmation ∷ []) ClearConfirmation) h
 loose_reset r o o' (Reset x y) rest rest' k l h = (l.0 h.0, at_most (resets o') (resets o) l.1 h.1, k Transfer false o Transfer false o' l h.2)
 loose_reset r o o' ResetConfirmation rest rest' k l h = (l.0 h.0, at_most (resets o') (resets o) l.1 h.1, k Transfer false o Transfer false o' l h.2)
@@ -156,7 +156,7 @@ loose_reset r o o' (ReceiveReady n) rest rest' k l h = k Transfer true o Transfe
 loose_reset r o o' (ReceiveNotReady n) rest rest' k l h = k Transfer true o Transfer true o' l h
 loose_reset r o o' _ rest rest' k l h = absurd h
 
-loose_resets : (r : Role) (o o' : List Body) (t : Body) (rest rest' : CallState → Bool → List Body → Type 0) → Follows r rest rest' → OneMore o o' → Comes r Transfer false o t rest → Comes r Transfer true o' t rest'
+loose_resets : (r : Role) (o o' : List Body) (t : Body) (rest rest' : ChannelState → Bool → List Body → Type 0) → Follows r rest rest' → OneMore o o' → Comes r Transfer false o t rest → Comes r Transfer true o' t rest'
 loose_resets r o o' (Clear x y) rest rest' k l h = k Ready false (o ++ ClearConfirmation ∷ []) Ready false (o' ++ ClearConfirmation ∷ []) (never_empty o (o' ++ ClearConfirmation ∷ []) ClearConfirmation) h
 loose_resets r o o' (Reset x y) rest rest' k l h = (l.0 h.0, one_left (resets o') (resets o) l.1 h.1, k Transfer false (o ++ ResetConfirmation ∷ []) Transfer false o' (one_learns o o' l h.0) h.2)
 loose_resets r o o' (Data s n d) rest rest' k l h = k Transfer false o Transfer true o' l h
@@ -168,7 +168,7 @@ loose_resets r o o' _ rest rest' k l h = absurd h
 
 -- ---- any two channels
 
-loose : (r : Role) (s : CallState) (rs : Bool) (o : List Body) (s' : CallState) (rs' : Bool) (o' : List Body) (t : Body) (rest rest' : CallState → Bool → List Body → Type 0)
+loose : (r : Role) (s : ChannelState) (rs : Bool) (o : List Body) (s' : ChannelState) (rs' : Bool) (o' : List Body) (t : Body) (rest rest' : ChannelState → Bool → List Body → Type 0)
     → Follows r rest rest' → Looser r s rs o s' rs' o' → Comes r s rs o t rest → Comes r s' rs' o' t rest'
 loose r s rs o OwnClear rs' o' t rest rest' k l h = loose_cleared r s rs o rs' o' t rest rest' k l h
 loose r Ready rs o Ready rs' o' t rest rest' k l h = loose_ready r rs o rs' o' t rest rest' k l h
@@ -183,24 +183,24 @@ loose r Transfer false o Transfer true o' t rest rest' k l h = loose_resets r o 
 loose r Transfer true o Transfer false o' t rest rest' k l h = absurd l
 loose r s rs o s' rs' o' t rest rest' k l h = absurd l
 
-loose_hears : (r : Role) (q : Kind) (s : CallState) (rs : Bool) (o : List Body) (s' : CallState) (rs' : Bool) (o' : List Body) (t : Body) (rest rest' : Bool → CallState → Bool → List Body → Type 0)
+loose_hears : (r : Role) (q : Kind) (s : ChannelState) (rs : Bool) (o : List Body) (s' : ChannelState) (rs' : Bool) (o' : List Body) (t : Body) (rest rest' : Bool → ChannelState → Bool → List Body → Type 0)
     → Follows r (λ a b c. rest true a b c) (λ a b c. rest' true a b c) → (rest true Ready false [] → rest' true Ready false []) → Looser r s rs o s' rs' o' → Hears r q true s rs o t rest → Hears r q true s' rs' o' t rest'
 loose_hears r Payload s rs o s' rs' o' t rest rest' k f l h = loose r s rs o s' rs' o' t (λ a b c. rest true a b c) (λ a b c. rest' true a b c) k l h
 loose_hears r Request s rs o s' rs' o' t rest rest' k f l h = f h
 loose_hears r Confirmation s rs o s' rs' o' t rest rest' k f l h = absurd h
 
-pub all_looser : (r : Role) (s : CallState) (rs : Bool) (o : List Body) (s' : CallState) (rs' : Bool) (o' ts : List Body) → Looser r s rs o s' rs' o' → AllCome r true s rs o ts → AllCome r true s' rs' o' ts
+pub all_looser : (r : Role) (s : ChannelState) (rs : Bool) (o : List Body) (s' : ChannelState) (rs' : Bool) (o' ts : List Body) → Looser r s rs o s' rs' o' → AllCome r true s rs o ts → AllCome r true s' rs' o' ts
 all_looser r s rs o s' rs' o' [] l h = tt
 all_looser r s rs o s' rs' o' (t ∷ ts) l h =
     loose_hears r (restart_kind t) s rs o s' rs' o' t (λ q a b c. AllCome r q a b c ts) (λ q a b c. AllCome r q a b c ts) (λ a b c a' b' c' l' h'. all_looser r a b c a' b' c' ts l' h') (λ h'. h') l h
 
-restarted_hears : (r : Role) (q : Kind) (s : CallState) (rs : Bool) (o : List Body) (t : Body) (rest : Bool → CallState → Bool → List Body → Type 0)
-    → ((a : CallState) (b : Bool) (c : List Body) → rest true a b c → rest false Ready false []) → Hears r q true s rs o t rest → Hears r q false Ready false [] t rest
+restarted_hears : (r : Role) (q : Kind) (s : ChannelState) (rs : Bool) (o : List Body) (t : Body) (rest : Bool → ChannelState → Bool → List Body → Type 0)
+    → ((a : ChannelState) (b : Bool) (c : List Body) → rest true a b c → rest false Ready false []) → Hears r q true s rs o t rest → Hears r q false Ready false [] t rest
 restarted_hears r Payload s rs o t rest f h = comes_some (rest false Ready false []) r s rs o t (λ a b c. rest true a b c) f h
 restarted_hears r Request s rs o t rest f h = h
 restarted_hears r Confirmation s rs o t rest f h = absurd h
 
 -- a restart begun here
-pub all_restarted : (r : Role) (s : CallState) (rs : Bool) (o ts : List Body) → AllCome r true s rs o ts → AllCome r false Ready false [] ts
+pub all_restarted : (r : Role) (s : ChannelState) (rs : Bool) (o ts : List Body) → AllCome r true s rs o ts → AllCome r false Ready false [] ts
 all_restarted r s rs o [] h = tt
 all_restarted r s rs o (t ∷ ts) h = restarted_hears r (restart_kind t) s rs o t (λ q a b c. AllCome r q a b c ts) (λ a b c h'. all_restarted r a b c ts h') h

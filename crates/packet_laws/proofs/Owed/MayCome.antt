@@ -5,8 +5,8 @@ use Rattle.link_timers.specs.declared.role.Role.{Role}
 use Rattle.link_timers.specs.declared.role.Role.TheVariants.{Dte, Dce}
 use Rattle.data_transfer.specs.Packets.{Body}
 use Rattle.data_transfer.specs.Packets.Body.{Call, Accepted, Clear, ClearConfirmation, Data, Interrupt, InterruptConfirmation, ReceiveReady, ReceiveNotReady, Reset, ResetConfirmation}
-use Rattle.packet_channel.specs.Channel.{CallState}
-use Rattle.packet_channel.specs.Channel.CallState.{Ready, OwnWaiting, FarWaiting, Transfer, Collision, OwnClear}
+use Rattle.packet_channel.specs.Channel.{ChannelState}
+use Rattle.packet_channel.specs.Channel.ChannelState.{Ready, OwnWaiting, FarWaiting, Transfer, Collision, OwnClear}
 use Rattle.packet_laws.proofs.Handshakes.Handshake.{Kind}
 use Rattle.packet_laws.proofs.Handshakes.Handshake.Kind.{Payload, Request, Confirmation}
 use Rattle.packet_laws.proofs.Call.OneEpoch.{one}
@@ -33,7 +33,7 @@ by_dte Dce rest = ⊥
 
 -- nothing comes to a channel in p1 that owes a clear; no reset comes while an acceptance is owed, nor while as many resets are owed
 -- as the other end waits for
-abbrev pub Comes : Role → CallState → Bool → List Body → Body → (CallState → Bool → List Body → Type 0) → Type 0
+abbrev pub Comes : Role → ChannelState → Bool → List Body → Body → (ChannelState → Bool → List Body → Type 0) → Type 0
 Comes r Ready rs o (Call p) rest = (o ≡ []) × rest FarWaiting rs o
 Comes r Ready rs o (Clear x y) rest = (o ≡ []) × rest Ready rs (o ++ ClearConfirmation ∷ [])
 Comes r OwnWaiting rs o (Call p) rest = rest Collision rs o
@@ -57,7 +57,7 @@ Comes r Transfer rs o (ReceiveNotReady n) rest = rest Transfer rs o
 Comes r s rs o t rest = ⊥
 
 -- with the restart: an end that is not in r1 hears no other packet, and is in p1 on all channels after a restart
-abbrev pub Hears : Role → Kind → Bool → CallState → Bool → List Body → Body → (Bool → CallState → Bool → List Body → Type 0) → Type 0
+abbrev pub Hears : Role → Kind → Bool → ChannelState → Bool → List Body → Body → (Bool → ChannelState → Bool → List Body → Type 0) → Type 0
 Hears r Payload true s rs o t rest = Comes r s rs o t (λ s' rs' o'. rest true s' rs' o')
 Hears r Payload false s rs o t rest = rest false s rs o
 Hears r Request ready s rs o t rest = rest true Ready false []
@@ -65,7 +65,7 @@ Hears r Confirmation false s rs o t rest = rest true Ready false []
 Hears r Confirmation true s rs o t rest = ⊥
 
 -- all that comes may come
-abbrev pub AllCome : Role → Bool → CallState → Bool → List Body → List Body → Type 0
+abbrev pub AllCome : Role → Bool → ChannelState → Bool → List Body → List Body → Type 0
 AllCome r ready s rs o [] = Unit {0}
 AllCome r ready s rs o (t ∷ ts) = Hears r (restart_kind t) ready s rs o t (λ ready' s' rs' o'. AllCome r ready' s' rs' o' ts)
 
@@ -102,7 +102,7 @@ pub record Placing (o : List Body) : Type 0 where
   pub no_resets : resets o ≡ 0
   pub short : length o ≤ 1
 
-abbrev pub Fits : CallState → Bool → List Body → Type 0
+abbrev pub Fits : ChannelState → Bool → List Body → Type 0
 Fits Transfer rs o = Resetting rs o ⊎ Accepting rs o
 Fits Ready false o = (length o ≤ 4) × Ended o
 Fits OwnClear false o = (length o ≤ 4) × Ended o
@@ -151,7 +151,7 @@ resets_push o b = let h = handshake_count_append reset_kind o (b ∷ []) in omeg
 
 -- ---- what comes, with another claim after it
 
-comes_map : (r : Role) (s : CallState) (rs : Bool) (o : List Body) (t : Body) (rest rest' : CallState → Bool → List Body → Type 0) → ((s' : CallState) (rs' : Bool) (o' : List Body) → rest s' rs' o' → rest' s' rs' o')
+comes_map : (r : Role) (s : ChannelState) (rs : Bool) (o : List Body) (t : Body) (rest rest' : ChannelState → Bool → List Body → Type 0) → ((s' : ChannelState) (rs' : Bool) (o' : List Body) → rest s' rs' o' → rest' s' rs' o')
     → Comes r s rs o t rest → Comes r s rs o t rest'
 comes_map r Ready rs o (Call p) rest rest' f h = (h.0, f FarWaiting rs o h.1)
 comes_map r Ready rs o (Clear x y) rest rest' f h = (h.0, f Ready rs (o ++ ClearConfirmation ∷ []) h.1)
@@ -181,7 +181,7 @@ comes_map r Transfer rs o (ReceiveNotReady n) rest rest' f h = f Transfer rs o h
 comes_map r Transfer false o _ rest rest' f h = absurd h
 comes_map r Transfer true o _ rest rest' f h = absurd h
 
-pub comes_some : (X : Type 0) (r : Role) (s : CallState) (rs : Bool) (o : List Body) (t : Body) (rest : CallState → Bool → List Body → Type 0) → ((s' : CallState) (rs' : Bool) (o' : List Body) → rest s' rs' o' → X)
+pub comes_some : (X : Type 0) (r : Role) (s : ChannelState) (rs : Bool) (o : List Body) (t : Body) (rest : ChannelState → Bool → List Body → Type 0) → ((s' : ChannelState) (rs' : Bool) (o' : List Body) → rest s' rs' o' → X)
     → Comes r s rs o t rest → X
 comes_some X r Ready rs o (Call p) rest f h = f FarWaiting rs o h.1
 comes_some X r Ready rs o (Clear x y) rest f h = f Ready rs (o ++ ClearConfirmation ∷ []) h.1
@@ -211,8 +211,8 @@ comes_some X r Transfer rs o (ReceiveNotReady n) rest f h = f Transfer rs o h
 comes_some X r Transfer false o _ rest f h = absurd h
 comes_some X r Transfer true o _ rest f h = absurd h
 
-hears_map : (r : Role) (k : Kind) (ready : Bool) (s : CallState) (rs : Bool) (o : List Body) (t : Body) (rest rest' : Bool → CallState → Bool → List Body → Type 0)
-    → ((q : Bool) (s' : CallState) (rs' : Bool) (o' : List Body) → rest q s' rs' o' → rest' q s' rs' o') → Hears r k ready s rs o t rest → Hears r k ready s rs o t rest'
+hears_map : (r : Role) (k : Kind) (ready : Bool) (s : ChannelState) (rs : Bool) (o : List Body) (t : Body) (rest rest' : Bool → ChannelState → Bool → List Body → Type 0)
+    → ((q : Bool) (s' : ChannelState) (rs' : Bool) (o' : List Body) → rest q s' rs' o' → rest' q s' rs' o') → Hears r k ready s rs o t rest → Hears r k ready s rs o t rest'
 hears_map r Payload true s rs o t rest rest' f h = comes_map r s rs o t (λ s' rs' o'. rest true s' rs' o') (λ s' rs' o'. rest' true s' rs' o') (λ s' rs' o' q. f true s' rs' o' q) h
 hears_map r Payload false s rs o t rest rest' f h = f false s rs o h
 hears_map r Request ready s rs o t rest rest' f h = f true Ready false [] h
@@ -220,7 +220,7 @@ hears_map r Confirmation false s rs o t rest rest' f h = f true Ready false [] h
 hears_map r Confirmation true s rs o t rest rest' f h = absurd h
 
 -- less comes
-pub all_front : (r : Role) (ready : Bool) (s : CallState) (rs : Bool) (o xs ys : List Body) → AllCome r ready s rs o (xs ++ ys) → AllCome r ready s rs o xs
+pub all_front : (r : Role) (ready : Bool) (s : ChannelState) (rs : Bool) (o xs ys : List Body) → AllCome r ready s rs o (xs ++ ys) → AllCome r ready s rs o xs
 all_front r ready s rs o [] ys h = tt
 all_front r ready s rs o (x ∷ xs) ys h =
     hears_map r (restart_kind x) ready s rs o x (λ q s' rs' o'. AllCome r q s' rs' o' (xs ++ ys)) (λ q s' rs' o'. AllCome r q s' rs' o' xs) (λ q s' rs' o' h'. all_front r q s' rs' o' xs ys h') h
@@ -231,7 +231,7 @@ pub one_small : (v : Bool) → one v ≤ 1
 one_small true = omega arith
 one_small false = omega arith
 
-pub few_three : (s : CallState) (rs : Bool) (o : List Body) → Fits s rs o → (s ≡ Ready → ⊥) → (s ≡ OwnClear → ⊥) → length o ≤ 3
+pub few_three : (s : ChannelState) (rs : Bool) (o : List Body) → Fits s rs o → (s ≡ Ready → ⊥) → (s ≡ OwnClear → ⊥) → length o ≤ 3
 few_three Transfer rs o (inl h) a b = let p = h.short in let q = h.few in let z = one_small rs in omega arith
 few_three Transfer rs o (inr (t, (h, inl e))) a b = let p = h.short in let q = ap (λ (l : List Body). length l) e in let z = one_small rs in omega arith
 few_three Transfer rs o (inr (t, (h, inr e))) a b = let p = h.short in let q = ap (λ (l : List Body). length l) e.1 in let z = one_small rs in omega arith

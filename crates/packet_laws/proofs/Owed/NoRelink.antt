@@ -5,11 +5,11 @@ use Rattle.link_timers.specs.Role.{other_of}
 use Rattle.data_transfer.specs.declared.flow.Flow.{Flow}
 use Rattle.data_transfer.specs.Packets.{Body}
 use Rattle.data_transfer.specs.Packets.Body.{Restart, RestartConfirmation}
-use Rattle.packet_channel.specs.Channel.{CallState, Channel}
-use Rattle.packet_channel.specs.Channel.CallState.{Ready}
+use Rattle.packet_channel.specs.Channel.{ChannelState, Channel}
+use Rattle.packet_channel.specs.Channel.ChannelState.{Ready}
 use Rattle.packet_layer.specs.Layer.{Phase, channel_of}
 use Rattle.packet_layer.specs.Layer.Phase.{NoSession}
-use Rattle.packet_laws.specs.Line.{End, Line, turned, is_session}
+use Rattle.packet_laws.specs.LayerLine.{End, Line, turned, is_session}
 use Rattle.packet_laws.proofs.Handshakes.Handshake.{Kind, Seen, Walk, said}
 use Rattle.packet_laws.proofs.Handshakes.Handshake.Kind.{Payload, Request, Confirmation}
 use Rattle.packet_laws.proofs.Handshakes.Keeping.{same}
@@ -160,16 +160,16 @@ begun_none role Payload t ts h = let e = h.0 in absurd cc
 begun_none role Request t ts h = let q = walk_reach restart_kind (λ j. []) 0 ts 1 0 h in let no : ⊥ = omega arith in no
 begun_none role Confirmation t ts h = h
 
-begun_after : (role : Role) (s : CallState) (rs : Bool) (o ts : List Body) → Walk restart_kind (λ j. []) 0 false 0 0 ts → AllCome role true s rs o ts
+begun_after : (role : Role) (s : ChannelState) (rs : Bool) (o ts : List Body) → Walk restart_kind (λ j. []) 0 false 0 0 ts → AllCome role true s rs o ts
 begun_after role s rs o [] h = tt
 begun_after role s rs o (t ∷ ts) h = absurd (begun_none role (restart_kind t) t ts h)
 
-begun_hears : (role : Role) (k : Kind) (s : CallState) (rs : Bool) (o : List Body) (t : Body) (ts : List Body) → (Walk restart_kind (λ j. []) 0 true 0 0 ts → AllCome role false s rs o ts)
+begun_hears : (role : Role) (k : Kind) (s : ChannelState) (rs : Bool) (o : List Body) (t : Body) (ts : List Body) → (Walk restart_kind (λ j. []) 0 true 0 0 ts → AllCome role false s rs o ts)
     → Seen k true 0 0 t (λ j. []) (λ q i j. Walk restart_kind (λ z. []) 0 q i j ts) → Hears role k false s rs o t (λ q a v c. AllCome role q a v c ts)
 begun_hears role Payload s rs o t ts f h = f h
 begun_hears role Request s rs o t ts f h = begun_after role Ready false [] ts h
 begun_hears role Confirmation s rs o t ts f h = begun_after role Ready false [] ts h
 
-pub begun_comes : (role : Role) (s : CallState) (rs : Bool) (o ts : List Body) → Walk restart_kind (λ j. []) 0 true 0 0 ts → AllCome role false s rs o ts
+pub begun_comes : (role : Role) (s : ChannelState) (rs : Bool) (o ts : List Body) → Walk restart_kind (λ j. []) 0 true 0 0 ts → AllCome role false s rs o ts
 begun_comes role s rs o [] h = tt
 begun_comes role s rs o (t ∷ ts) h = begun_hears role (restart_kind t) s rs o t ts (λ q. begun_comes role s rs o ts q) h

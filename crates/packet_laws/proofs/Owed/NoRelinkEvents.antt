@@ -7,13 +7,13 @@ use Rattle.link_timers.specs.Role.{other_of}
 use Rattle.data_transfer.specs.declared.flow.Flow.{Flow}
 use Rattle.data_transfer.specs.Packets.{CallParts, Body, Packet, Received}
 use Rattle.data_transfer.specs.Packets.Body.{Restart}
-use Rattle.packet_channel.specs.Channel.{CallState, Channel, Request, closed_channel}
+use Rattle.packet_channel.specs.Channel.{ChannelState, Channel, Request, closed_channel}
 use Rattle.packet_layer.specs.Layer.{Phase, Layer, Next, Timer, nth_channel, channel_of, call, request, on_timer, on_packet, next_packet, link_down, channel_given, start_cause}
 use Rattle.packet_layer.specs.Layer.Phase.{NoSession, OwnRestart}
 use Rattle.packet_laws.specs.History.{History, call_history, request_history, timer_history}
-use Rattle.packet_laws.specs.Line.{End, Line, Event, turned, happens, told, with_layer, begun, may_begin, is_session, handed_over, offers, accepts, arrives_in, next_of_session}
-use Rattle.packet_laws.specs.Line.Event.{Up, Down, Calls, Requests, Expires, Offers, Arrives}
-use Rattle.packet_laws.specs.Law.{is_restart_fault, is_channel_fault}
+use Rattle.packet_laws.specs.LayerLine.{End, Line, Event, turned, happens, told, with_layer, begun, may_begin, is_session, handed_over, offers, accepts, arrives_in, next_of_session}
+use Rattle.packet_laws.specs.LayerLine.Event.{Up, Down, Calls, Requests, Expires, Offers, Arrives}
+use Rattle.packet_laws.specs.LayerLineLaw.{is_restart_fault, is_channel_fault}
 use Rattle.packet_laws.proofs.Handshakes.Handshake.{Walk, said}
 use Rattle.packet_laws.proofs.Handshakes.Keeping.{same}
 use Rattle.packet_laws.proofs.Call.Saying.{and_parts, by_cond}
@@ -272,7 +272,7 @@ not_zero_session zero e = absurd (true≢false (sym e))
 not_zero_session (suc s) e = omega arith
 
 -- nothing was accepted, so both ends are as begun, and all that is on the way may come
-begun_way : (channels : ℕ) (flow : Flow) (role : Role) (w : Line) (k c : ℕ) → 0 < k → w.me.accepted k ≡ 0 → w.you.accepted k ≡ 0 → Tied flow role w k c → w.you.layer.relink ≡ false → AllCome role false CallState.Ready false [] (way w k c)
+begun_way : (channels : ℕ) (flow : Flow) (role : Role) (w : Line) (k c : ℕ) → 0 < k → w.me.accepted k ≡ 0 → w.you.accepted k ≡ 0 → Tied flow role w k c → w.you.layer.relink ≡ false → AllCome role false ChannelState.Ready false [] (way w k c)
 begun_way channels flow role w k c lt mine yours t quiet =
     let ex = t.mine.still lt mine in
     let ey = t.yours.still lt yours in
@@ -281,8 +281,8 @@ begun_way channels flow role w k c lt mine yours t quiet =
     subst (λ (z : Whole). Walk restart_kind z.put z.number true 0 0 t.b) ey
     (subst (λ (z : Whole). Walk restart_kind t.y.put t.y.number z.own z.number (z.came z.number) t.b) ex walk) in
     let front = way_front flow role w k c t quiet in
-    all_front role false CallState.Ready false [] (way w k c) front.0
-    (subst (λ (q : List Body). AllCome role false CallState.Ready false [] q) front.1 (begun_comes role CallState.Ready false [] t.b walk'))
+    all_front role false ChannelState.Ready false [] (way w k c) front.0
+    (subst (λ (q : List Body). AllCome role false ChannelState.Ready false [] q) front.1 (begun_comes role ChannelState.Ready false [] t.b walk'))
 
 begun_linked : (w : Line) (k c : ℕ) → w.you.accepted k ≡ 0 → linked (turned (record w { me = begun k w.me })) k c ≡ []
 begun_linked w k c none =
@@ -314,7 +314,7 @@ up_at channels flow role w k may m =
           let num = m.count.0 in
           let is : closed_channel ≡ ch = some_same closed_channel ch (sym (nth_map w.me.layer.channels c b.0 closed_channel b.1) ∙ found) in
           subst (λ (z : Channel). ComesTo role OwnRestart z (way w s c)) is
-          (subst (λ (j : ℕ). AllCome role false CallState.Ready false [] (way w j c)) (some_number k s ses)
+          (subst (λ (j : ℕ). AllCome role false ChannelState.Ready false [] (way w j c)) (some_number k s ses)
           (begun_way channels flow role w k c lt mine_none yours_none (m.tied k c lo (omega arith)) m.you.quiet));
     })
     (λ s c lo hi up.

@@ -6,15 +6,15 @@ use Rattle.link_timers.specs.Role.{other_of}
 use Rattle.data_transfer.specs.Flow.{modulus}
 use Rattle.data_transfer.specs.declared.flow.Flow.{Flow}
 use Rattle.data_transfer.specs.Packets.{CallParts, Body, Packet, Note}
-use Rattle.packet_channel.specs.Channel.{CallState, Channel, Step, closed_channel, entered, requested}
-use Rattle.packet_channel.specs.Channel.CallState.{Ready, OwnWaiting, FarWaiting, Transfer, Collision, OwnClear}
+use Rattle.packet_channel.specs.Channel.{ChannelState, Channel, Step, closed_channel, entered, requested}
+use Rattle.packet_channel.specs.Channel.ChannelState.{Ready, OwnWaiting, FarWaiting, Transfer, Collision, OwnClear}
 use Rattle.packet_layer.specs.Layer.{Layer, Timer, Next, nth_channel, channel_of, standing_channels, start_phase, set_if, passes_limit, runs, on_timer, on_found, channel_given, placed_on, placing, next_packet}
 use Rattle.packet_layer.specs.Layer.Timer.{RestartTimer, CallTimer, ResetTimer, ClearTimer}
 use Rattle.packet_layer.specs.Layer.Phase.{NoSession}
 use Rattle.packet_laws.specs.History.{History}
-use Rattle.packet_laws.specs.Line.{Line, Event, Happening, turned, happens, after_one, after, start_line, start_end, start_session, is_session, may_begin, begun, offers, accepts, arrives_in, next_of_session}
-use Rattle.packet_laws.specs.Line.Event.{Up, Down, Calls, Requests, Expires, Offers, Arrives}
-use Rattle.packet_laws.specs.Line.Happening.{Here, There}
+use Rattle.packet_laws.specs.LayerLine.{Line, Event, Happening, turned, happens, after_one, after, start_line, start_end, start_session, is_session, may_begin, begun, offers, accepts, arrives_in, next_of_session}
+use Rattle.packet_laws.specs.LayerLine.Event.{Up, Down, Calls, Requests, Expires, Offers, Arrives}
+use Rattle.packet_laws.specs.LayerLine.Happening.{Here, There}
 use Rattle.packet_laws.specs.Owed.{most_owed, is_restart_expiry, unasked, asks, WithinLimit, OwedLaw}
 use Rattle.packet_laws.proofs.Line.Beginning.{starts_tied}
 use Rattle.packet_laws.proofs.Line.Consequences.{turned_tied}
@@ -140,7 +140,7 @@ all_taken_back channels flow role (h ∷ hs) w m = all_taken_back channels flow 
 
 -- ---- within the limit
 
-fits_most : (s : CallState) (rs : Bool) (o : List Body) → Fits s rs o → length o ≤ most_owed s
+fits_most : (s : ChannelState) (rs : Bool) (o : List Body) → Fits s rs o → length o ≤ most_owed s
 fits_most Ready false o f = f.0
 fits_most OwnClear false o f = f.0
 fits_most OwnWaiting false o f = f.short
@@ -155,7 +155,7 @@ fits_most OwnWaiting true o f = absurd f
 fits_most Collision true o f = absurd f
 fits_most FarWaiting true o f = absurd f
 
-fits_in_most : (ready : Bool) (s : CallState) (rs : Bool) (o : List Body) → FitsIn ready s rs o → length o ≤ most_owed s
+fits_in_most : (ready : Bool) (s : ChannelState) (rs : Bool) (o : List Body) → FitsIn ready s rs o → length o ≤ most_owed s
 fits_in_most true s rs o f = fits_most s rs o f
 fits_in_most false s rs o f = let l = ap (λ (q : List Body). length q) f.2 in omega arith
 

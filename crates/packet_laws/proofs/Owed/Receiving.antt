@@ -8,11 +8,11 @@ use Rattle.data_transfer.specs.Packets.{Body, Packet, Received, Reason}
 use Rattle.data_transfer.specs.Packets.Body.{Call, Accepted, Clear, ClearConfirmation, Data, Interrupt, InterruptConfirmation, ReceiveReady, ReceiveNotReady, Reset, ResetConfirmation, Restart, RestartConfirmation}
 use Rattle.data_transfer.specs.Traffic.{Traffic, Heard, hears}
 use Rattle.data_transfer.specs.Traffic.Heard.{Keeps, Confirms, Wrong}
-use Rattle.packet_channel.specs.Channel.{CallState, Channel, Step, received, after_heard, closed_channel}
-use Rattle.packet_channel.specs.Channel.CallState.{Ready, OwnWaiting, FarWaiting, Transfer, Collision, OwnClear}
+use Rattle.packet_channel.specs.Channel.{ChannelState, Channel, Step, received, after_heard, closed_channel}
+use Rattle.packet_channel.specs.Channel.ChannelState.{Ready, OwnWaiting, FarWaiting, Transfer, Collision, OwnClear}
 use Rattle.packet_layer.specs.Layer.{Phase, Layer, channel_of, on_found, on_channel, restart_packet, on_packet, unread, set_if, owes_restart, all_closed}
 use Rattle.packet_layer.specs.Layer.Phase.{NoSession, OwnRestart, PacketReady}
-use Rattle.packet_laws.specs.Law.{is_request, is_fault_on, is_channel_fault, is_restart_fault}
+use Rattle.packet_laws.specs.LayerLineLaw.{is_request, is_fault_on, is_channel_fault, is_restart_fault}
 use Rattle.packet_laws.proofs.Handshakes.Handshake.{Kind, said}
 use Rattle.packet_laws.proofs.Handshakes.Handshake.Kind.{Payload, Request, Confirmation}
 use Rattle.packet_laws.proofs.Call.Levels.{restart_kind}
@@ -30,7 +30,7 @@ heard_owed role c o tr (Keeps n t) = refl
 heard_owed role c o tr (Confirms t) = refl
 heard_owed role c o tr (Wrong d) = refl
 
-received_owed : (role : Role) (flow : Flow) (c : ℕ) (s : CallState) (rs : Bool) (o : List Body) (tr : Traffic) (b : Body) → (received role flow c (channel_with s rs o tr) b).channel.owed ≡ o
+received_owed : (role : Role) (flow : Flow) (c : ℕ) (s : ChannelState) (rs : Bool) (o : List Body) (tr : Traffic) (b : Body) → (received role flow c (channel_with s rs o tr) b).channel.owed ≡ o
 received_owed role flow c Ready rs o tr (Call p) = refl
 received_owed role flow c Ready rs o tr (Clear x y) = refl
 received_owed role flow c Ready rs o tr _ = refl
@@ -76,15 +76,15 @@ arrival_acts role flow c ch b ts plain f fault h =
 
 -- ---- a restart packet
 
-closed_fits : (s : CallState) (rs : Bool) (o : List Body) → FitsIn false s rs o → Fits s rs o
+closed_fits : (s : ChannelState) (rs : Bool) (o : List Body) → FitsIn false s rs o → Fits s rs o
 closed_fits s rs o f =
-    subst (λ (q : CallState). Fits q rs o) (sym f.0) (subst (λ (q : Bool). Fits Ready q o) (sym f.1) (subst (λ (q : List Body). Fits Ready false q) (sym f.2) (omega arith, tt)))
+    subst (λ (q : ChannelState). Fits q rs o) (sym f.0) (subst (λ (q : Bool). Fits Ready q o) (sym f.1) (subst (λ (q : List Body). Fits Ready false q) (sym f.2) (omega arith, tt)))
 
-closed_comes : (role : Role) (s : CallState) (rs : Bool) (o ts : List Body) → FitsIn false s rs o → AllCome role true Ready false [] ts → AllCome role true s rs o ts
+closed_comes : (role : Role) (s : ChannelState) (rs : Bool) (o ts : List Body) → FitsIn false s rs o → AllCome role true Ready false [] ts → AllCome role true s rs o ts
 closed_comes role s rs o ts f h =
-    subst (λ (q : CallState). AllCome role true q rs o ts) (sym f.0) (subst (λ (q : Bool). AllCome role true Ready q o ts) (sym f.1) (subst (λ (q : List Body). AllCome role true Ready false q ts) (sym f.2) h))
+    subst (λ (q : ChannelState). AllCome role true q rs o ts) (sym f.0) (subst (λ (q : Bool). AllCome role true Ready q o ts) (sym f.1) (subst (λ (q : List Body). AllCome role true Ready false q ts) (sym f.2) h))
 
-restart_hears : (role : Role) (s : CallState) (rs : Bool) (o ts : List Body) (t : Body) → IsRestart t → AllCome role false s rs o (t ∷ ts) → AllCome role true Ready false [] ts
+restart_hears : (role : Role) (s : ChannelState) (rs : Bool) (o ts : List Body) (t : Body) → IsRestart t → AllCome role false s rs o (t ∷ ts) → AllCome role true Ready false [] ts
 restart_hears role s rs o ts (Restart a d) r h = h
 restart_hears role s rs o ts RestartConfirmation r h = h
 restart_hears role s rs o ts _ r h = absurd r
@@ -130,7 +130,7 @@ restart_quiet l own _ r fault rl few = absurd r
 abbrev heard_step : Role → Layer → Packet → Channel → Step
 heard_step role l p ch = received role l.flow p.channel ch p.body
 
-ignored_comes : (role : Role) (k : Kind) (s : CallState) (rs : Bool) (o ts : List Body) (b : Body) → k ≡ Payload → Hears role k false s rs o b (λ q a v c. AllCome role q a v c ts) → AllCome role false s rs o ts
+ignored_comes : (role : Role) (k : Kind) (s : ChannelState) (rs : Bool) (o ts : List Body) (b : Body) → k ≡ Payload → Hears role k false s rs o b (λ q a v c. AllCome role q a v c ts) → AllCome role false s rs o ts
 ignored_comes role Payload s rs o ts b e h = h
 ignored_comes role Request s rs o ts b e h = absurd cc
 ignored_comes role Confirmation s rs o ts b e h = absurd cc

@@ -8,8 +8,8 @@ use Rattle.packet_layer.specs.Layer.{Phase, Layer, Next, Timer, channel_of, call
 use Rattle.packet_layer.specs.Layer.Phase.{NoSession, OwnRestart, PacketReady}
 use Rattle.packet_layer.specs.Layer.Timer.{RestartTimer, CallTimer, ResetTimer, ClearTimer}
 use Rattle.packet_laws.specs.History.{History}
-use Rattle.packet_laws.specs.Line.{End, Line, Event, happens, begun, may_begin, handed_over, offers, accepts, arrives_in, next_of_session}
-use Rattle.packet_laws.specs.Line.Event.{Up, Down, Calls, Requests, Expires, Offers, Arrives}
+use Rattle.packet_laws.specs.LayerLine.{End, Line, Event, happens, begun, may_begin, handed_over, offers, accepts, arrives_in, next_of_session}
+use Rattle.packet_laws.specs.LayerLine.Event.{Up, Down, Calls, Requests, Expires, Offers, Arrives}
 
 -- ---- a layer that does not ask, with other notes
 

@@ -6,8 +6,8 @@ use Rattle.data_transfer.specs.declared.flow.Flow.{Flow}
 use Rattle.data_transfer.specs.Packets.{CallParts, Body}
 use Rattle.data_transfer.specs.Packets.Body.{Call, Accepted, Clear, Reset}
 use Rattle.data_transfer.specs.Traffic.{Traffic}
-use Rattle.packet_channel.specs.Channel.{CallState, Step, Request, Refusal, requested, refusal, unless, quiet, moved, clear_error}
-use Rattle.packet_channel.specs.Channel.CallState.{Ready, OwnWaiting, FarWaiting, Transfer, Collision, OwnClear}
+use Rattle.packet_channel.specs.Channel.{ChannelState, Step, Request, Refusal, requested, refusal, unless, quiet, moved, clear_error}
+use Rattle.packet_channel.specs.Channel.ChannelState.{Ready, OwnWaiting, FarWaiting, Transfer, Collision, OwnClear}
 use Rattle.packet_channel.specs.Channel.Request.{Accept, Clearing, Resetting, Sending, Interrupting, Stopping, Taking, Releasing, Confirming}
 use Rattle.packet_layer.specs.Layer.{placing}
 use Rattle.packet_laws.proofs.Handshakes.Handshake.{said}
@@ -17,15 +17,15 @@ use Rattle.packet_laws.proofs.Owed.Loosening.{all_looser, Looser}
 use Rattle.packet_laws.proofs.Owed.Draining.{FitsIn}
 
 -- a step of a channel, in r1 or not, while `before` may come, and `after` after it
-pub record Acts (role : Role) (ready : Bool) (s : CallState) (rs : Bool) (o : List Body) (st : Step) (before after : List Body) : Type 0 where
+pub record Acts (role : Role) (ready : Bool) (s : ChannelState) (rs : Bool) (o : List Body) (st : Step) (before after : List Body) : Type 0 where
   pub owed_is : st.channel.owed ≡ o
   pub fits : FitsIn ready st.channel.state st.channel.resetting (said st.owes o)
   pub comes : AllCome role ready s rs o before → AllCome role ready st.channel.state st.channel.resetting (said st.owes o) after
 
-same_acts : (role : Role) (ready : Bool) (s : CallState) (rs : Bool) (o : List Body) (tr tr' : Traffic) (ts : List Body) → FitsIn ready s rs o → Acts role ready s rs o (quiet (moved tr' (channel_with s rs o tr))) ts ts
+same_acts : (role : Role) (ready : Bool) (s : ChannelState) (rs : Bool) (o : List Body) (tr tr' : Traffic) (ts : List Body) → FitsIn ready s rs o → Acts role ready s rs o (quiet (moved tr' (channel_with s rs o tr))) ts ts
 same_acts role ready s rs o tr tr' ts f = record { owed_is = refl; fits = f; comes = λ h. h }
 
-unless_acts : (role : Role) (ready : Bool) (s : CallState) (rs : Bool) (o : List Body) (tr tr' : Traffic) (ts : List Body) (r : Option Refusal) → FitsIn ready s rs o → Acts role ready s rs o (unless r (quiet (moved tr' (channel_with s rs o tr))) (channel_with s rs o tr)) ts ts
+unless_acts : (role : Role) (ready : Bool) (s : ChannelState) (rs : Bool) (o : List Body) (tr tr' : Traffic) (ts : List Body) (r : Option Refusal) → FitsIn ready s rs o → Acts role ready s rs o (unless r (quiet (moved tr' (channel_with s rs o tr))) (channel_with s rs o tr)) ts ts
 unless_acts role ready s rs o tr tr' ts None f = same_acts role ready s rs o tr tr' ts f
 unless_acts role ready s rs o tr tr' ts (Some q) f = same_acts role ready s rs o tr tr ts f
 
@@ -57,12 +57,12 @@ reset_fits o x y (inr (t, (h, e))) =
 one_reset_more : (o : List Body) (x y : ℕ) → resets (o ++ Reset x y ∷ []) ≤ resets o + 1
 one_reset_more o x y = let p = resets_push o (Reset x y) in omega arith
 
-abbrev pub MayEnd : CallState → Type 0
+abbrev pub MayEnd : ChannelState → Type 0
 MayEnd Ready = ⊥
 MayEnd OwnClear = ⊥
 MayEnd s = Unit {0}
 
-clear_looser : (role : Role) (s : CallState) (rs : Bool) (o o' : List Body) → MayEnd s → Looser role s rs o OwnClear false o'
+clear_looser : (role : Role) (s : ChannelState) (rs : Bool) (o o' : List Body) → MayEnd s → Looser role s rs o OwnClear false o'
 clear_looser role OwnWaiting rs o o' m = tt
 clear_looser role FarWaiting rs o o' m = tt
 clear_looser role Collision rs o o' m = tt
@@ -70,25 +70,25 @@ clear_looser role Transfer rs o o' m = tt
 clear_looser role Ready rs o o' m = absurd m
 clear_looser role OwnClear rs o o' m = absurd m
 
-not_ready : (s : CallState) → MayEnd s → s ≡ Ready → ⊥
-not_ready s m e = subst (λ (q : CallState). MayEnd q) e m
+not_ready : (s : ChannelState) → MayEnd s → s ≡ Ready → ⊥
+not_ready s m e = subst (λ (q : ChannelState). MayEnd q) e m
 
-not_clear : (s : CallState) → MayEnd s → s ≡ OwnClear → ⊥
-not_clear s m e = subst (λ (q : CallState). MayEnd q) e m
+not_clear : (s : ChannelState) → MayEnd s → s ≡ OwnClear → ⊥
+not_clear s m e = subst (λ (q : ChannelState). MayEnd q) e m
 
-clears : (role : Role) (s : CallState) (rs : Bool) (o : List Body) (st : Step) (x y : ℕ) (ts : List Body) → MayEnd s → Fits s rs o → st.channel.owed ≡ o → st.channel.state ≡ OwnClear → st.channel.resetting ≡ false → st.owes ≡ Some (Clear x y)
+clears : (role : Role) (s : ChannelState) (rs : Bool) (o : List Body) (st : Step) (x y : ℕ) (ts : List Body) → MayEnd s → Fits s rs o → st.channel.owed ≡ o → st.channel.state ≡ OwnClear → st.channel.resetting ≡ false → st.owes ≡ Some (Clear x y)
     → Acts role true s rs o st ts ts
 clears role s rs o st x y ts m f e_o e_s e_r e_b =
     let fits : Fits OwnClear false (o ++ Clear x y ∷ []) = closing o (Clear x y) tt (few_three s rs o f (not_ready s m) (not_clear s m)) in
-    let turn : (P : CallState → Bool → List Body → Type 0) → P OwnClear false (o ++ Clear x y ∷ []) → P st.channel.state st.channel.resetting (said st.owes o) = λ P h.
-    subst (λ (q : CallState). P q st.channel.resetting (said st.owes o)) (sym e_s) (subst (λ (q : Bool). P OwnClear q (said st.owes o)) (sym e_r) (subst (λ (q : Option Body). P OwnClear false (said q o)) (sym e_b) h)) in
+    let turn : (P : ChannelState → Bool → List Body → Type 0) → P OwnClear false (o ++ Clear x y ∷ []) → P st.channel.state st.channel.resetting (said st.owes o) = λ P h.
+    subst (λ (q : ChannelState). P q st.channel.resetting (said st.owes o)) (sym e_s) (subst (λ (q : Bool). P OwnClear q (said st.owes o)) (sym e_r) (subst (λ (q : Option Body). P OwnClear false (said q o)) (sym e_b) h)) in
     record {
       owed_is = e_o;
       fits = turn (λ a b c. Fits a b c) fits;
       comes = λ h. turn (λ a b c. AllCome role true a b c ts) (all_looser role s rs o OwnClear false (o ++ Clear x y ∷ []) ts (clear_looser role s rs o (o ++ Clear x y ∷ []) m) h);
     }
 
-pub clear_acts : (role : Role) (c : ℕ) (s : CallState) (rs : Bool) (o : List Body) (tr : Traffic) (ts : List Body) → MayEnd s → Fits s rs o → Acts role true s rs o (clear_error role c 0 true (channel_with s rs o tr)) ts ts
+pub clear_acts : (role : Role) (c : ℕ) (s : ChannelState) (rs : Bool) (o : List Body) (tr : Traffic) (ts : List Body) → MayEnd s → Fits s rs o → Acts role true s rs o (clear_error role c 0 true (channel_with s rs o tr)) ts ts
 clear_acts role c s rs o tr ts m f = clears role s rs o (clear_error role c 0 true (channel_with s rs o tr)) _ _ ts m f refl refl refl refl
 
 pub place_acts : (role : Role) (rs : Bool) (o : List Body) (tr : Traffic) (parts : CallParts) (ts : List Body) → o ≡ [] → Fits Ready rs o → Acts role true Ready rs o (placing parts (channel_with Ready rs o tr)) ts ts
@@ -154,7 +154,7 @@ acts_open role flow rs o tr Taking ts f = same_acts role true Transfer rs o tr _
 acts_open role flow rs o tr (Releasing n) ts f = same_acts role true Transfer rs o tr _ ts f
 acts_open role flow rs o tr Confirming ts f = same_acts role true Transfer rs o tr _ ts f
 
-pub request_acts : (role : Role) (flow : Flow) (ready : Bool) (s : CallState) (rs : Bool) (o : List Body) (tr : Traffic) (r : Request) (ts : List Body) → FitsIn ready s rs o → Acts role ready s rs o (requested role flow (channel_with s rs o tr) r) ts ts
+pub request_acts : (role : Role) (flow : Flow) (ready : Bool) (s : ChannelState) (rs : Bool) (o : List Body) (tr : Traffic) (r : Request) (ts : List Body) → FitsIn ready s rs o → Acts role ready s rs o (requested role flow (channel_with s rs o tr) r) ts ts
 request_acts role flow ready Ready rs o tr r ts f = acts_ready role flow ready rs o tr r ts f
 request_acts role flow true OwnClear rs o tr r ts f = acts_clear role flow rs o tr r ts f
 request_acts role flow true OwnWaiting rs o tr r ts f = acts_placed role flow rs o tr r ts f

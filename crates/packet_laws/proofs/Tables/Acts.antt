@@ -14,8 +14,8 @@ use Rattle.call_states.specs.Table.{call_step}
 use Rattle.reset_restart.specs.declared.reset.ResetEvent.TheVariants.{UserReset}
 use Rattle.data_transfer.specs.Packets.{CallParts, Body}
 use Rattle.data_transfer.specs.Traffic.{Traffic}
-use Rattle.packet_channel.specs.Channel.{CallState, Channel, Request, refusal, requested}
-use Rattle.packet_channel.specs.Channel.CallState.{Ready, Transfer}
+use Rattle.packet_channel.specs.Channel.{ChannelState, Channel, Request, refusal, requested}
+use Rattle.packet_channel.specs.Channel.ChannelState.{Ready, Transfer}
 use Rattle.packet_layer.specs.Layer.{Phase, Layer, nth_channel, channel_given, free_channel, lowest_free, highest_free, is_free, is_ready, raised, either_of, itself_if, placing}
 use Rattle.packet_laws.specs.Tables.States.{packet_asked}
 use Rattle.packet_laws.specs.Tables.Rows.{act_row, reset_row_of}
@@ -28,13 +28,13 @@ pub record ActAt (role : Role) (flow : Flow) (c : ℕ) (ch : Channel) (r : Reque
   pub allowed : (refusal role flow ch r ≡ None) ↔ IsSome (act_row role ch act)
   pub follows : IfSome (act_row role ch act) (λ row. FollowsCall role c None ch row (requested role flow ch r) × ((requested role flow ch r).owes ≡ packet_asked r))
 
-pub accept_at : (role : Role) (flow : Flow) (c : ℕ) (s : CallState) (resetting : Bool) (owed : List Body) (t : Traffic) → ActAt role flow c (channel_in s resetting owed t) Request.Accept acts.Accept
+pub accept_at : (role : Role) (flow : Flow) (c : ℕ) (s : ChannelState) (resetting : Bool) (owed : List Body) (t : Traffic) → ActAt role flow c (channel_in s resetting owed t) Request.Accept acts.Accept
 accept_at Dte flow c Ready resetting owed t = record { allowed = (λ e. cc, λ e. cc); follows = search }
 accept_at Dte flow c _ resetting owed t = record { allowed = (λ e. cc, λ e. cc); follows = search }
 accept_at Dce flow c Ready resetting owed t = record { allowed = (λ e. cc, λ e. cc); follows = search }
 accept_at Dce flow c _ resetting owed t = record { allowed = (λ e. cc, λ e. cc); follows = search }
 
-pub clear_at : (role : Role) (flow : Flow) (c : ℕ) (s : CallState) (resetting : Bool) (owed : List Body) (t : Traffic) (cause diagnostic : ℕ)
+pub clear_at : (role : Role) (flow : Flow) (c : ℕ) (s : ChannelState) (resetting : Bool) (owed : List Body) (t : Traffic) (cause diagnostic : ℕ)
     → ActAt role flow c (channel_in s resetting owed t) (Request.Clearing cause diagnostic) acts.Clear
 clear_at Dte flow c Ready resetting owed t cause diagnostic = record { allowed = (λ e. cc, λ e. cc); follows = search }
 clear_at Dte flow c _ resetting owed t cause diagnostic = record { allowed = (λ e. cc, λ e. cc); follows = search }
@@ -47,7 +47,7 @@ pub record ResetActAt (role : Role) (flow : Flow) (c : ℕ) (ch : Channel) (r : 
   pub allowed : (refusal role flow ch r ≡ None) ↔ IsSome (reset_row_of role ch UserReset)
   pub follows : IfSome (reset_row_of role ch UserReset) (λ row. FollowsReset role c None ch row (requested role flow ch r) × ((requested role flow ch r).owes ≡ packet_asked r))
 
-reset_parts : (role : Role) (flow : Flow) (c : ℕ) (s : CallState) (resetting : Bool) (owed : List Body) (t : Traffic) (cause diagnostic : ℕ)
+reset_parts : (role : Role) (flow : Flow) (c : ℕ) (s : ChannelState) (resetting : Bool) (owed : List Body) (t : Traffic) (cause diagnostic : ℕ)
     → ResetActAt role flow c (channel_in s resetting owed t) (Request.Resetting cause diagnostic)
 reset_parts Dte flow c Transfer true owed t cause diagnostic = record { allowed = (λ e. cc, λ e. cc); follows = search }
 reset_parts Dte flow c _ _ owed t cause diagnostic = record { allowed = (λ e. cc, λ e. cc); follows = search }
@@ -98,7 +98,7 @@ given_is l _ c e = absurd (cc)
 abbrev pub PlacesAt : Role → ℕ → CallParts → Channel → Type 0
 PlacesAt role c parts ch = (row : CallStep) × (act_row role ch acts.Call ≡ Some row) × FollowsCall role c None ch row (placing parts ch)
 
-place_in : (role : Role) (c : ℕ) (parts : CallParts) (s : CallState) (resetting : Bool) (owed : List Body) (t : Traffic) (last : Bool)
+place_in : (role : Role) (c : ℕ) (parts : CallParts) (s : ChannelState) (resetting : Bool) (owed : List Body) (t : Traffic) (last : Bool)
     → (is_ready s && last) ≡ true → PlacesAt role c parts (channel_in s resetting owed t)
 place_in Dte c parts Ready resetting owed t last e = (call_step states.DteWaiting (Some types.CallRequest) Nothing None, refl, search)
 place_in Dce c parts Ready resetting owed t last e = (call_step states.DceWaiting (Some types.CallRequest) Nothing None, refl, search)

@@ -11,8 +11,8 @@ use Rattle.data_transfer.specs.Packets.{Body, Received}
 use Rattle.data_transfer.specs.Packets.{Body as body}
 use Rattle.data_transfer.specs.Packets.Received.{Whole, Unknown, Faulty}
 use Rattle.data_transfer.specs.Traffic.{Traffic}
-use Rattle.packet_channel.specs.Channel.{CallState, Channel}
-use Rattle.packet_channel.specs.Channel.CallState.{Ready, OwnWaiting, FarWaiting, Transfer, Collision, OwnClear}
+use Rattle.packet_channel.specs.Channel.{ChannelState, Channel}
+use Rattle.packet_channel.specs.Channel.ChannelState.{Ready, OwnWaiting, FarWaiting, Transfer, Collision, OwnClear}
 use Rattle.packet_laws.specs.Tables.States.{channel_named, body_read}
 use Rattle.packet_laws.specs.Tables.Rows.{call_row, reset_row}
 use Rattle.packet_laws.specs.Tables.Follows.{FollowsCall}
@@ -32,7 +32,7 @@ of_followed (Some x) found row P none e ne h = absurd (cc)
 abbrev pub FollowedAt : Role → Flow → Channel → Received → Type 0
 FollowedAt role flow ch r = Followed (reset_row role ch r) (call_row role ch r) (λ row. FollowsCall role (channel_named r) (body_read r) ch row (step_by role flow ch r))
 
-whole_followed : (role : Role) (flow : Flow) (s : CallState) (resetting : Bool) (owed : List Body) (t : Traffic) (c : ℕ) (b : Body)
+whole_followed : (role : Role) (flow : Flow) (s : ChannelState) (resetting : Bool) (owed : List Body) (t : Traffic) (c : ℕ) (b : Body)
     → FollowedAt role flow (channel_in s resetting owed t) (Whole (packet_on c b))
 whole_followed Dte flow Ready resetting owed t c (body.Call parts) = search
 whole_followed Dte flow Ready resetting owed t c _ = search
@@ -71,13 +71,13 @@ whole_followed Dce flow Collision resetting owed t c _ = search
 whole_followed Dce flow OwnClear resetting owed t c (body.Call parts) = search
 whole_followed Dce flow OwnClear resetting owed t c _ = search
 
-unknown_followed : (role : Role) (flow : Flow) (s : CallState) (resetting : Bool) (owed : List Body) (t : Traffic) (c : ℕ) → FollowedAt role flow (channel_in s resetting owed t) (Unknown c)
+unknown_followed : (role : Role) (flow : Flow) (s : ChannelState) (resetting : Bool) (owed : List Body) (t : Traffic) (c : ℕ) → FollowedAt role flow (channel_in s resetting owed t) (Unknown c)
 unknown_followed Dte flow Transfer true owed t c = search
 unknown_followed Dte flow _ _ owed t c = search
 unknown_followed Dce flow Transfer true owed t c = search
 unknown_followed Dce flow _ _ owed t c = search
 
-faulty_followed : (role : Role) (flow : Flow) (s : CallState) (resetting : Bool) (owed : List Body) (t : Traffic) (c : ℕ) → FollowedAt role flow (channel_in s resetting owed t) (Faulty c)
+faulty_followed : (role : Role) (flow : Flow) (s : ChannelState) (resetting : Bool) (owed : List Body) (t : Traffic) (c : ℕ) → FollowedAt role flow (channel_in s resetting owed t) (Faulty c)
 faulty_followed Dte flow Transfer true owed t c = search
 faulty_followed Dte flow _ _ owed t c = search
 faulty_followed Dce flow Transfer true owed t c = search

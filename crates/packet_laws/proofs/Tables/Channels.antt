@@ -7,13 +7,13 @@ use Rattle.data_transfer.specs.declared.flow.Flow.{Flow}
 use Rattle.data_transfer.specs.Packets.{Body, Packet, Received}
 use Rattle.data_transfer.specs.Packets.Received.{Whole, Unknown, Faulty}
 use Rattle.data_transfer.specs.Traffic.{Traffic}
-use Rattle.packet_channel.specs.Channel.{CallState, Channel, Step, received, unreadable}
+use Rattle.packet_channel.specs.Channel.{ChannelState, Channel, Step, received, unreadable}
 use Rattle.packet_layer.specs.Layer.{Phase, Layer, nth_channel, channel_of, after_step, on_found, on_channel, restart_packet, unread, on_packet}
 use Rattle.packet_layer.specs.Layer.Phase.{PacketReady}
 use Rattle.packet_laws.specs.Tables.States.{channel_named}
-use Rattle.packet_laws.specs.Tables.Clauses.{ComesOn}
+use Rattle.packet_laws.specs.Tables.TableClauses.{ComesOn}
 
-abbrev pub channel_in : CallState → Bool → List Body → Traffic → Channel
+abbrev pub channel_in : ChannelState → Bool → List Body → Traffic → Channel
 channel_in s resetting owed t = record { state = s; resetting = resetting; owed = owed; traffic = t }
 
 abbrev pub packet_on : ℕ → Body → Packet

@@ -11,7 +11,7 @@ use Rattle.packet_layer.specs.Layer.{Layer, channel_of, after_step, on_found, on
 use Rattle.packet_laws.specs.Tables.States.{restart_state, type_of, channel_named, body_read, packet_asked}
 use Rattle.packet_laws.specs.Tables.Rows.{act_row, call_row, reset_row, reset_row_of}
 use Rattle.packet_laws.specs.Tables.Follows.{FollowsCall, FollowsReset, FollowsRestart}
-use Rattle.packet_laws.specs.Tables.Clauses.{CallPackets, DataPackets, ResetPackets, CallsPlaced, CallActs, ResetActs, RestartPackets, RestartUnreadable, ActsByCallTable}
+use Rattle.packet_laws.specs.Tables.TableClauses.{CallPackets, DataPackets, ResetPackets, CallsPlaced, CallActs, ResetActs, RestartPackets, RestartUnreadable, ActsByCallTable}
 use Rattle.packet_laws.specs.Tables.Notes.{TellsTransfer}
 use Rattle.packet_laws.proofs.Tables.Notes.{transfer_tells}
 use Rattle.packet_laws.proofs.Tables.Channels.{of_some, comes_step, step_by}

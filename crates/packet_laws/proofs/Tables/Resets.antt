@@ -12,8 +12,8 @@ use Rattle.data_transfer.specs.Packets.{Body, Received}
 use Rattle.data_transfer.specs.Packets.{Body as body}
 use Rattle.data_transfer.specs.Packets.Received.{Whole, Unknown, Faulty}
 use Rattle.data_transfer.specs.Traffic.{Traffic, Heard, hears}
-use Rattle.packet_channel.specs.Channel.{CallState, Channel, received, after_heard}
-use Rattle.packet_channel.specs.Channel.CallState.{Ready, OwnWaiting, FarWaiting, Transfer, Collision, OwnClear}
+use Rattle.packet_channel.specs.Channel.{ChannelState, Channel, received, after_heard}
+use Rattle.packet_channel.specs.Channel.ChannelState.{Ready, OwnWaiting, FarWaiting, Transfer, Collision, OwnClear}
 use Rattle.packet_laws.specs.Tables.States.{call_state, channel_named, body_read}
 use Rattle.packet_laws.specs.Tables.Rows.{call_row, reset_row}
 use Rattle.packet_laws.specs.Tables.Follows.{FollowsReset}
@@ -33,18 +33,18 @@ in_transfer_reset Dce flow false owed t c _ = search
 in_transfer_reset Dce flow true owed t c (body.Call parts) = search
 in_transfer_reset Dce flow true owed t c _ = search
 
-whole_reset : (role : Role) (flow : Flow) (s : CallState) (resetting : Bool) (owed : List Body) (t : Traffic) (c : ℕ) (b : Body)
+whole_reset : (role : Role) (flow : Flow) (s : ChannelState) (resetting : Bool) (owed : List Body) (t : Traffic) (c : ℕ) (b : Body)
     → ResetAt role flow (channel_in s resetting owed t) (Whole (packet_on c b))
 whole_reset role flow Transfer resetting owed t c b = in_transfer_reset role flow resetting owed t c b
 whole_reset role flow _ resetting owed t c b = tt
 
-unknown_reset : (role : Role) (flow : Flow) (s : CallState) (resetting : Bool) (owed : List Body) (t : Traffic) (c : ℕ) → ResetAt role flow (channel_in s resetting owed t) (Unknown c)
+unknown_reset : (role : Role) (flow : Flow) (s : ChannelState) (resetting : Bool) (owed : List Body) (t : Traffic) (c : ℕ) → ResetAt role flow (channel_in s resetting owed t) (Unknown c)
 unknown_reset Dte flow Transfer true owed t c = search
 unknown_reset Dte flow _ _ owed t c = search
 unknown_reset Dce flow Transfer true owed t c = search
 unknown_reset Dce flow _ _ owed t c = search
 
-faulty_reset : (role : Role) (flow : Flow) (s : CallState) (resetting : Bool) (owed : List Body) (t : Traffic) (c : ℕ) → ResetAt role flow (channel_in s resetting owed t) (Faulty c)
+faulty_reset : (role : Role) (flow : Flow) (s : ChannelState) (resetting : Bool) (owed : List Body) (t : Traffic) (c : ℕ) → ResetAt role flow (channel_in s resetting owed t) (Faulty c)
 faulty_reset Dte flow Transfer true owed t c = search
 faulty_reset Dte flow _ _ owed t c = search
 faulty_reset Dce flow Transfer true owed t c = search
@@ -80,9 +80,9 @@ abbrev pub LeftAt : Role → Flow → Channel → ℕ → Body → Type 0
 LeftAt role flow ch c b = LeftTo (reset_row role ch (Whole (packet_on c b))) (call_row role ch (Whole (packet_on c b))) (λ row. Heeds role flow c ch b row)
 
 heeds : (role : Role) (flow : Flow) (owed : List Body) (t : Traffic) (c : ℕ) (h : Heard) → call_state role (after_heard role c (channel_in Transfer false owed t) h).channel.state ≡ call_state role Transfer
-heeds role flow owed t c h = ap (λ (s : CallState). call_state role s) (heard_goes_on role c false owed t h)
+heeds role flow owed t c h = ap (λ (s : ChannelState). call_state role s) (heard_goes_on role c false owed t h)
 
-whole_left : (role : Role) (flow : Flow) (s : CallState) (resetting : Bool) (owed : List Body) (t : Traffic) (c : ℕ) (b : Body) → LeftAt role flow (channel_in s resetting owed t) c b
+whole_left : (role : Role) (flow : Flow) (s : ChannelState) (resetting : Bool) (owed : List Body) (t : Traffic) (c : ℕ) (b : Body) → LeftAt role flow (channel_in s resetting owed t) c b
 whole_left Dte flow Ready resetting owed t c (body.Call parts) = λ n. absurd (cc)
 whole_left Dte flow Ready resetting owed t c _ = λ n. absurd (cc)
 whole_left Dte flow OwnWaiting resetting owed t c (body.Call parts) = λ n. absurd (cc)

@@ -5,11 +5,11 @@ use Rattle.data_transfer.specs.declared.flow.Flow.{Flow}
 use Rattle.data_transfer.specs.Packets.{Body, Packet}
 use Rattle.data_transfer.specs.Packets.Body.{Data, ReceiveReady, ReceiveNotReady}
 use Rattle.data_transfer.specs.Traffic.{Traffic, fresh}
-use Rattle.packet_channel.specs.Channel.{CallState, Channel, in_transfer}
+use Rattle.packet_channel.specs.Channel.{ChannelState, Channel, in_transfer}
 use Rattle.packet_layer.specs.Layer.{nth_channel}
 use Rattle.packet_laws.specs.History.{Epoch, empty_epoch}
 use Rattle.packet_laws.specs.Counts.{NamesCounts}
-use Rattle.packet_laws.specs.Law.{IsPrefix}
+use Rattle.packet_laws.specs.LayerLineLaw.{IsPrefix}
 use Rattle.packet_laws.specs.Readable.{Every, IfAny}
 use Rattle.packet_laws.specs.Layers.Epochs.{Epochs}
 use Rattle.packet_laws.specs.Layers.Acts.{World}
@@ -44,7 +44,7 @@ pub record IsUnused (resetting : Bool) (t : Traffic) (e : Epoch) : Type 0 where
 
 -- the numbers of a channel in data transfer name the counts of its epoch; one that is not in data transfer is unused;
 -- and what a channel owes besides has no number
-pub record Counts (flow : Flow) (s : CallState) (resetting : Bool) (owed : List Body) (t : Traffic) (e : Epoch) : Type 0
+pub record Counts (flow : Flow) (s : ChannelState) (resetting : Bool) (owed : List Body) (t : Traffic) (e : Epoch) : Type 0
   where
     pub names : NamesCounts flow t e
     pub unused : in_transfer s ≡ false → IsUnused resetting t e

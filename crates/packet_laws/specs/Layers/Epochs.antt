@@ -8,8 +8,8 @@ use Rattle.data_transfer.specs.Packets.Body.{Clear, ClearConfirmation, Reset, Re
 use Rattle.data_transfer.specs.Packets.Body.{RestartConfirmation}
 use Rattle.data_transfer.specs.Packets.Received.{Whole, Unknown, Faulty}
 use Rattle.data_transfer.specs.Traffic.{Traffic, Heard, hears}
-use Rattle.packet_channel.specs.Channel.{CallState, Channel, Request, Refusal, refusal, requested, received, unreadable}
-use Rattle.packet_channel.specs.Channel.CallState.{Transfer}
+use Rattle.packet_channel.specs.Channel.{ChannelState, Channel, Request, Refusal, refusal, requested, received, unreadable}
+use Rattle.packet_channel.specs.Channel.ChannelState.{Transfer}
 use Rattle.packet_layer.specs.Layer.{Phase, Layer, Timer, channel_of, runs}
 use Rattle.packet_layer.specs.Layer.Phase.{PacketReady}
 use Rattle.packet_layer.specs.Layer.Timer.{RestartTimer, CallTimer, ResetTimer, ClearTimer}
@@ -35,7 +35,7 @@ after_request role flow r ch e =
     begun_by (requested role flow ch r).owes (grown_unless (refusal role flow ch r) ch.traffic r e)
 
 -- a packet that is heard in d1 covers what its P(R) covers
-abbrev pub grown_by : CallState → (resetting : Bool) → Heard → Epoch → Epoch
+abbrev pub grown_by : ChannelState → (resetting : Bool) → Heard → Epoch → Epoch
 grown_by Transfer false h e = logged_heard h e
 grown_by state resetting h e = e
 

@@ -22,16 +22,16 @@ use Rattle.packet_layer.specs.Layer.{Phase}
 
 -- ---- states
 
-abbrev pub end_state_of : channel.CallState → places.EndState
-end_state_of channel.CallState.Ready = places.EndState.Ready
-end_state_of channel.CallState.OwnWaiting = places.EndState.OwnWaiting
-end_state_of channel.CallState.FarWaiting = places.EndState.FarWaiting
-end_state_of channel.CallState.Transfer = places.EndState.DataTransfer
-end_state_of channel.CallState.Collision = places.EndState.CallCollision
-end_state_of channel.CallState.OwnClear = places.EndState.OwnClear
+abbrev pub end_state_of : channel.ChannelState → places.EndState
+end_state_of channel.ChannelState.Ready = places.EndState.Ready
+end_state_of channel.ChannelState.OwnWaiting = places.EndState.OwnWaiting
+end_state_of channel.ChannelState.FarWaiting = places.EndState.FarWaiting
+end_state_of channel.ChannelState.Transfer = places.EndState.DataTransfer
+end_state_of channel.ChannelState.Collision = places.EndState.CallCollision
+end_state_of channel.ChannelState.OwnClear = places.EndState.OwnClear
 
 -- p1 to p7
-abbrev pub call_state : Role → channel.CallState → CallState
+abbrev pub call_state : Role → channel.ChannelState → CallState
 call_state role s = places.state_of role (end_state_of s)
 
 -- d1, or the own one of d2 and d3

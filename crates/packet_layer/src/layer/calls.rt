@@ -11,9 +11,10 @@ ghost use Rattle.packet_layer.specs.Layer as machine;
 ghost use Rattle.data_transfer.specs.Octets.{parts_of};
 ghost use Rattle.data_transfer.specs.Packets.{Datum};
 ghost use Rattle.data_transfer.specs.Traffic.Taken.{TakenPacket};
-ghost use Rattle.packet_layer.specs.RequestView.{request_of, bare_request_of, refusal_of, call_refusal_of};
+ghost use Rattle.packet_layer.specs.RequestView.{request_of, refusal_of, call_refusal_of};
 ghost use Rattle.data_transfer.specs.TakenView.{maybe_taken, maybe_taken_in, maybe_buffers_in};
 ghost use Rattle.packet_layer.specs.Free.{IsFreeAt};
+ghost use Rattle.packet_layer.specs.Answered.{IsPassedOn};
 
 use crate::fault::CallFault;
 use crate::layer::Layer;
@@ -21,7 +22,7 @@ use crate::restart::Phase;
 use data_transfer::{KeptPacket, Taken, TakenBuf};
 use flow_window::pool::Pool;
 use link_timers::Role;
-use packet_channel::{BareRequest, Channel, ChannelFault, RefusedBuf, Request};
+use packet_channel::{Channel, ChannelFault, RefusedBuf, Request};
 use packet_codec::{CallBuf, CallData};
 
 fn lowest_free(channels: &[Channel]) -> Option<usize>
@@ -131,26 +132,17 @@ impl Layer {
         Ok(())
     }
 
-    // Asks what touches no packet of the call on the channel, as `ask` does.
-    fn ask_bare(&mut self, channel: u8, request: &BareRequest<'_>) -> Result<(), ChannelFault>
-        ensures answer { MatchResult result
-            (λ _. machine.request_refusal self.old.layer channel (bare_request_of request.now) ≡ None)
-            (λ fault. machine.request_refusal self.old.layer channel (bare_request_of request.now)
-            ≡ Some (refusal_of fault)) }
-        ensures layer { self.new.layer ≡ machine.request self.old.layer channel (bare_request_of request.now) }
-        ensures held { self.new.held ≡ self.old.held }
-        ensures most { most_held self.new.layer ≡ most_held self.old.layer }
-        ensures kept { OnErr result (self.new ≡ self.old) }
+    /// What the answer of a channel is for its layer, which asks for a relink if the channel does.
+    fn answered(&mut self, answer: Result<bool, ChannelFault>) -> Result<(), ChannelFault>
+        ensures { IsPassedOn self.old answer self.new result }
     {
-        let Some(place) = self.place(u16::from(channel)) else {
-            return Err(ChannelFault::NoCall);
-        };
-        let role = self.role;
-        self.to_serve.insert(place);
-        let channel = &mut self.channels[place];
-        let relink = channel.bare_request(role, request)?;
-        self.relink_if(relink);
-        Ok(())
+        match answer {
+            Ok(relink) => {
+                self.relink_if(relink);
+                Ok(())
+            }
+            Err(fault) => Err(fault),
+        }
     }
 
     /// Accepts the call that came in on the channel (X.25 4.1.4).
@@ -165,7 +157,14 @@ impl Layer {
         ensures most { most_held self.new.layer ≡ most_held self.old.layer }
         ensures kept { OnErr result (self.new ≡ self.old) }
     {
-        self.ask_bare(channel, &BareRequest::Accept)
+        let Some(place) = self.place(u16::from(channel)) else {
+            return Err(ChannelFault::NoCall);
+        };
+        let role = self.role;
+        self.to_serve.insert(place);
+        let channel = &mut self.channels[place];
+        let answer = channel.accept(role);
+        self.answered(answer)
     }
 
     /// Clears the call on the channel, also one that is being set up, with a cause and a diagnostic (X.25 4.1.7).
@@ -307,7 +306,13 @@ impl Layer {
         ensures most { most_held self.new.layer ≡ most_held self.old.layer }
         ensures kept { OnErr result (self.new ≡ self.old) }
     {
-        self.ask_bare(channel, &BareRequest::Interrupt(octets))
+        let Some(place) = self.place(u16::from(channel)) else {
+            return Err(ChannelFault::NoCall);
+        };
+        self.to_serve.insert(place);
+        let channel = &mut self.channels[place];
+        let answer = channel.interrupt(octets);
+        self.answered(answer)
     }
 
     /// Asks the far end by RNR to send no more data on the channel (X.25 4.4.1.5).
@@ -322,7 +327,7 @@ impl Layer {
         ensures most { most_held self.new.layer ≡ most_held self.old.layer }
         ensures kept { OnErr result (self.new ≡ self.old) }
     {
-        self.ask_bare(channel, &BareRequest::Stop(true))
+        self.tell_stopped(channel, true)
     }
 
     /// Ends by RR what `stop` asked (X.25 4.4.1.4).
@@ -337,7 +342,27 @@ impl Layer {
         ensures most { most_held self.new.layer ≡ most_held self.old.layer }
         ensures kept { OnErr result (self.new ≡ self.old) }
     {
-        self.ask_bare(channel, &BareRequest::Stop(false))
+        self.tell_stopped(channel, false)
+    }
+
+    /// Asks the far end to send no more data, or to send again.
+    fn tell_stopped(&mut self, channel: u8, stopped: bool) -> Result<(), ChannelFault>
+        ensures answer { MatchResult result
+            (λ _. machine.request_refusal self.old.layer channel (asked.Stopping stopped) ≡ None)
+            (λ fault. machine.request_refusal self.old.layer channel (asked.Stopping stopped)
+            ≡ Some (refusal_of fault)) }
+        ensures layer { self.new.layer ≡ machine.request self.old.layer channel (asked.Stopping stopped) }
+        ensures held { self.new.held ≡ self.old.held }
+        ensures most { most_held self.new.layer ≡ most_held self.old.layer }
+        ensures kept { OnErr result (self.new ≡ self.old) }
+    {
+        let Some(place) = self.place(u16::from(channel)) else {
+            return Err(ChannelFault::NoCall);
+        };
+        self.to_serve.insert(place);
+        let channel = &mut self.channels[place];
+        let answer = channel.stop(stopped);
+        self.answered(answer)
     }
 
     /// Takes what comes next on the channel, if anything: an interrupt before all packets.
@@ -379,7 +404,13 @@ impl Layer {
         ensures held { self.new.held ≡ self.old.held }
         ensures most { most_held self.new.layer ≡ most_held self.old.layer }
     {
-        let _ = self.ask_bare(channel, &BareRequest::Release(count));
+        let Some(place) = self.place(u16::from(channel)) else {
+            return;
+        };
+        self.to_serve.insert(place);
+        let channel = &mut self.channels[place];
+        let answer = channel.release(count);
+        let _ = self.answered(answer);
     }
 
     /// Owes the confirmation of the interrupt that was taken on the channel (X.25 4.3.7). Nothing happens if none is
@@ -389,6 +420,12 @@ impl Layer {
         ensures held { self.new.held ≡ self.old.held }
         ensures most { most_held self.new.layer ≡ most_held self.old.layer }
     {
-        let _ = self.ask_bare(channel, &BareRequest::ConfirmInterrupt);
+        let Some(place) = self.place(u16::from(channel)) else {
+            return;
+        };
+        self.to_serve.insert(place);
+        let channel = &mut self.channels[place];
+        let answer = channel.confirm_interrupt();
+        let _ = self.answered(answer);
     }
 }

@@ -11,6 +11,7 @@ ghost use Rattle.data_transfer.specs.Octets.{body_of, unreadable_as};
 ghost use Rattle.packet_layer.specs.Events.{on_octets, after_hearing};
 
 use crate::layer::Layer;
+use crate::layer::serving::keep_if;
 use crate::restart::{Phase, RestartPacket};
 use flow_window::pool::Pool;
 use packet_channel::{Reason, error_cause};
@@ -113,9 +114,9 @@ impl Layer {
             return;
         };
         let end = self.end(place);
-        self.to_serve.insert(place);
         let channel = &mut self.channels[place];
         let relink = channel.take_packet(end, packet, pool, &mut self.notes);
+        keep_if(&mut self.to_serve, place, channel.has_packet(end.flow));
         self.relink_if(relink);
     }
 

@@ -123,7 +123,7 @@ impl Layer {
     }
 }
 
-// Whether nothing is owed and nothing waits on any of these channels.
+/// Whether nothing is owed and nothing waits on any of these channels.
 fn rest(channels: &[Channel]) -> bool
     ensures { result ≡ list_all (λ c. machine.channel_rests c.channel) channels.now }
 {

@@ -1,6 +1,7 @@
 //! What goes to the link.
 ghost use Rattle.std.specs.Bool.{OnFalse};
-ghost use Rattle.std.specs.Prelude.{◌≡◌, ◌<◌, ◌≤◌, ◌+◌, ◌-◌, length, is_some};
+ghost use Rattle.std.specs.Prelude.{◌≡◌, ℕ, ◌<◌, ◌≤◌, ◌+◌, ◌-◌, ◌==◌, if◌then◌else◌, length, is_some};
+ghost use Rattle.number_set.specs.NumberSet.{has};
 ghost use Rattle.flow_window.specs.Pool.{Holds, Balances};
 ghost use Rattle.packet_layer.specs.Held.{most_held};
 ghost use Rattle.packet_layer.specs.Layer as machine;
@@ -10,6 +11,7 @@ ghost use Rattle.packet_layer.specs.Unsent.{LayerHasSaidAll};
 use crate::layer::Layer;
 use crate::restart::{Phase, write_restart};
 use flow_window::pool::Pool;
+use number_set::NumberSet;
 use packet_codec::PacketBuf;
 
 impl Layer {
@@ -47,7 +49,7 @@ impl Layer {
         self.serve(buf, pool)
     }
 
-    // The first channel that has anything, round.
+    /// The first channel that has anything, round.
     fn serve(&mut self, buf: &mut PacketBuf, pool: &mut Pool) -> bool
         requires few { length self.old.held ≤ most_held self.old.layer }
         requires holds { Holds pool.old self.old.held }
@@ -72,7 +74,7 @@ impl Layer {
         self.serve_between(next, count, buf, pool) || self.serve_between(0, next, buf, pool)
     }
 
-    // The place of the channel after that which was served last, round.
+    /// The place of the channel after that which was served last, round.
     fn next_place(&self) -> usize
         ensures place { result + 1 ≡ machine.next_number self.now.layer self.now.layer.served_last }
         ensures most { result ≤ length self.now.layer.channels }
@@ -81,7 +83,7 @@ impl Layer {
         if next < self.channels.len() { next } else { 0 }
     }
 
-    // The first of the channels from one place up to another that has anything.
+    /// The first of the channels from one place up to another that has anything.
     #[inline(always)]
     fn serve_between(
         &mut self,
@@ -112,7 +114,7 @@ impl Layer {
         false
     }
 
-    // What one channel has. Where that is nothing, the channel need not be served again.
+    /// What one channel has. If nothing is left then, the channel need not be served again.
     #[tactic(auto, using(data_transfer::proofs::Windows::window_small))]
     fn serve_channel(&mut self, place: usize, buf: &mut PacketBuf, pool: &mut Pool) -> bool
         requires place { place < length self.old.layer.channels }
@@ -130,11 +132,24 @@ impl Layer {
         let number = place as u8 + 1;
         let channel = &mut self.channels[place];
         if channel.next_packet(flow, number, buf, pool) {
+            keep_if(&mut self.to_serve, place, channel.has_packet(flow));
             self.served_last = number;
             true
         } else {
             self.to_serve.remove(place);
             false
         }
+    }
+}
+
+/// Keeps a number in a set, or takes it out.
+pub(super) fn keep_if(numbers: &mut NumberSet, number: usize, is_kept: bool)
+    requires { number < 64 }
+    ensures { (n : ℕ) → has numbers.new n ≡ (if n == number then is_kept else has numbers.old n) }
+{
+    if is_kept {
+        numbers.insert(number);
+    } else {
+        numbers.remove(number);
     }
 }

@@ -65,7 +65,7 @@ impl Layer {
         self.to_serve = NumberSet::new();
     }
 
-    // Begins a restart of this end.
+    /// Begins a restart of this end.
     pub(crate) fn restart(&mut self, cause: u8, diagnostic: u8)
         ensures { self.new ≡ record self.old { layer = machine.restarting cause diagnostic self.old.layer } }
     {

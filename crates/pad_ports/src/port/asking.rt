@@ -34,7 +34,8 @@ impl Port {
         self.press_other(octet, params, line)
     }
 
-    // Takes a key that is not only added to the text.
+    /// Takes a key that is not only added to the text.
+    #[inline(never)]
     fn press_other(&mut self, octet: u8, params: Params, line: &mut PadLine) -> bool
         requires notes { length line.old.notes + 2 ≤ MOST_NOTES }
         requires params { params ≡ self.old.terminal.settings.params }
@@ -132,7 +133,7 @@ impl Port {
         self.idle_left = None;
     }
 
-    // A key has edited the text: its step is noted.
+    /// A key has edited the text: its step is noted.
     fn note_key(&self, octet: u8, params: Params, line: &mut PadLine)
         requires { length line.old.notes < MOST_NOTES }
         ensures line { line.new ≡ (spec.on_call (spec.edits (key octet params) None) self.now.call
@@ -150,7 +151,7 @@ impl Port {
         });
     }
 
-    // Sends the block that was ended.
+    /// Sends the block that was ended.
     fn send_block(&self, block: &Block, line: &mut PadLine)
         requires { length line.old.notes < MOST_NOTES }
         ensures line { line.new ≡ (spec.on_call (spec.sends block.now false) self.now.call
@@ -164,7 +165,7 @@ impl Port {
         line.send(channel, block.as_slice(), false);
     }
 
-    // The end of the idle time has edited the text: its step is noted.
+    /// The end of the idle time has edited the text: its step is noted.
     fn note_pause(&self, params: Params, line: &mut PadLine)
         requires { length line.old.notes < MOST_NOTES }
         ensures line { line.new ≡ (spec.on_call (spec.edits (idle params) None) self.now.call
@@ -178,7 +179,7 @@ impl Port {
         line.notes.add(ChannelNote::Paused { channel, params });
     }
 
-    // Does what the terminal asks for, if anything.
+    /// Does what the terminal asks for, if anything.
     fn ask_for(&mut self, request: Option<TerminalRequest>, line: &mut PadLine)
         requires { length line.old.notes + 1 ≤ MOST_NOTES }
         ensures port { self.new ≡ (spec.does_asked request (record { port = self.old; line = line.old })).port }
@@ -210,7 +211,7 @@ impl Port {
         }
     }
 
-    // Clears the call, which the terminal has left.
+    /// Clears the call, which the terminal has left.
     pub(crate) fn clear_call(&mut self, line: &mut PadLine)
         requires { length line.old.notes + 1 ≤ MOST_NOTES }
         ensures port { self.new ≡ (spec.on_call spec.clears self.old.call
@@ -253,7 +254,7 @@ impl Port {
         line.interrupt(channel);
     }
 
-    // Sends a message, if there is one.
+    /// Sends a message, if there is one.
     pub(crate) fn tell(&mut self, message: Option<Message>, line: &mut PadLine)
         requires { length line.old.notes + 1 ≤ MOST_NOTES }
         ensures port { self.new ≡ self.old }

@@ -28,7 +28,7 @@ impl Port {
         self.terminal.has_text() || self.has_next(line)
     }
 
-    // Whether what waits first on the call is to be shown now: a message waits while the send queue is full.
+    /// Whether what waits first on the call is to be shown now: a message waits while the send queue is full.
     fn has_next(&self, line: &PadLine) -> bool
         ensures { result ≡ is_some (spec.taken_of (record { port = self.now; line = line.now })) }
     {
@@ -73,7 +73,7 @@ impl Port {
         taken
     }
 
-    // Takes what waits first on the call, if it is to be shown now.
+    /// Takes what waits first on the call, if it is to be shown now.
     fn take_next(&self, line: &mut PadLine) -> Option<PadTaken>
         requires { length line.old.notes < MOST_NOTES }
         ensures taken { maybe_taken result ≡ spec.taken_of (record { port = self.now; line = line.old }) }
@@ -89,7 +89,7 @@ impl Port {
         line.take(channel)
     }
 
-    // Shows what was taken, and lets P(R) pass it; an interrupt is confirmed.
+    /// Shows what was taken, and lets P(R) pass it; an interrupt is confirmed.
     fn show<const N: usize>(
         &mut self,
         taken: &PadTaken,
@@ -121,7 +121,7 @@ impl Port {
         }
     }
 
-    // A qualified packet is a message, another is shown.
+    /// A qualified packet is a message, another is shown.
     fn show_data<const N: usize>(
         &mut self,
         user_data: &PadData,

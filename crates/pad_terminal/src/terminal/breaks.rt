@@ -59,14 +59,14 @@ impl Terminal {
     }
 }
 
-// Whether an indication of break goes out.
+/// Whether an indication of break goes out.
 fn indicates(params: &Params) -> bool
     ensures { result ≡ spec.indicates params.now }
 {
     params.acts_on_break(BreakAction::Indication) && !params.acts_on_break(BreakAction::Reset)
 }
 
-// A reset, or else an interrupt, where it may be asked for.
+/// A reset, or else an interrupt, where it may be asked for.
 fn request(params: &Params, call: CallCondition) -> Option<TerminalRequest>
     ensures { result ≡ spec.request_of params.now call }
 {
@@ -83,7 +83,7 @@ fn request(params: &Params, call: CallCondition) -> Option<TerminalRequest>
     }
 }
 
-// The indication of break, where it goes out.
+/// The indication of break, where it goes out.
 fn indication(params: &Params) -> Option<Message>
     ensures { result ≡ spec.indication_of params.now }
 {

@@ -20,7 +20,7 @@ struct Outcome {
 }
 
 impl Outcome {
-    // Answers by a signal alone.
+    /// Answers by a signal alone.
     fn answered(signal: Signal) -> Outcome
         ensures { result ≡ record { answer = Some signal; request = None } }
     {
@@ -30,7 +30,7 @@ impl Outcome {
         }
     }
 
-    // Asks the PAD, and answers by a new line alone.
+    /// Asks the PAD, and answers by a new line alone.
     fn acknowledged(request: TerminalRequest) -> Outcome
         ensures { result ≡ record { answer = Some Signal.Acknowledgement; request = Some request } }
     {
@@ -40,7 +40,7 @@ impl Outcome {
         }
     }
 
-    // Asks the PAD, without an answer.
+    /// Asks the PAD, without an answer.
     fn unanswered(request: Option<TerminalRequest>) -> Outcome
         ensures { result ≡ record { answer = None; request = request } }
     {
@@ -52,8 +52,8 @@ impl Outcome {
 }
 
 impl Terminal {
-    // Carries a line out (X.28 3.2): shows what answers it, and comes back to data transfer where a command within a
-    // call was done. What the PAD is asked is the result.
+    /// Carries a line out (X.28 3.2): shows what answers it, and comes back to data transfer where a command within a
+    /// call was done. What the PAD is asked is the result.
     #[tactic(auto, unfolding(crate::specs::Commands::after_line, crate::specs::Commands::request_of_line))]
     pub(crate) fn carry_out(&mut self, line: &[u8], call: CallCondition) -> Option<TerminalRequest>
         ensures terminal { self.new ≡ spec.after_line line.now call self.old }
@@ -167,7 +167,7 @@ impl Terminal {
     }
 }
 
-// A request, where it may be made.
+/// A request, where it may be made.
 fn ask(may: bool, request: TerminalRequest) -> Outcome
     ensures { result ≡ spec.asked may request }
 {
@@ -178,7 +178,7 @@ fn ask(may: bool, request: TerminalRequest) -> Outcome
     }
 }
 
-// The values of a report, where there are any.
+/// The values of a report, where there are any.
 fn acknowledged(report: &Report) -> Signal
     requires { length report.now.items ≤ ENTRY_LIMIT }
     ensures { result ≡ spec.acknowledged report.now.items }
@@ -190,7 +190,7 @@ fn acknowledged(report: &Report) -> Signal
     }
 }
 
-// The values of a report.
+/// The values of a report.
 fn parameters(report: &Report) -> Signal
     requires { length report.now.items ≤ ENTRY_LIMIT }
     ensures { result ≡ spec.parameters report.now.items }

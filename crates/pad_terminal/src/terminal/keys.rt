@@ -70,7 +70,7 @@ impl Terminal {
         true
     }
 
-    // A key of the command line.
+    /// A key of the command line.
     fn command_key(&mut self, octet: u8, call: CallCondition) -> InputAnswer
         ensures terminal { self.new ≡ (spec.after_command_key octet call self.old).terminal }
         ensures answer { result ≡ (spec.after_command_key octet call self.old).answer }
@@ -81,7 +81,7 @@ impl Terminal {
         }
     }
 
-    // Takes a key to the command line and echoes it. The line that it ends, if it ends one, is the result.
+    /// Takes a key to the command line and echoes it. The line that it ends, if it ends one, is the result.
     fn type_command(&mut self, octet: u8) -> Option<CommandLine>
         ensures terminal { self.new ≡ spec.with_line (line.after_key self.old.settings.params octet self.old.line)
             (line.is_echoed self.old.settings.params self.old.line) self.old }
@@ -95,7 +95,7 @@ impl Terminal {
         key.ended
     }
 
-    // A key of data transfer.
+    /// A key of data transfer.
     fn data_key(&mut self, octet: u8, queue_full: bool) -> InputAnswer
         ensures terminal { self.new ≡ (spec.after_data_key octet queue_full self.old).terminal }
         ensures answer { result ≡ (spec.after_data_key octet queue_full self.old).answer }
@@ -111,7 +111,7 @@ impl Terminal {
         self.edit(octet, queue_full)
     }
 
-    // Comes to the command state.
+    /// Comes to the command state.
     pub(crate) fn recall(&mut self)
         ensures { self.new ≡ prompted Mode.CommandState self.old }
     {
@@ -119,7 +119,7 @@ impl Terminal {
         self.output.prompt(&self.settings.params);
     }
 
-    // A key that is edited.
+    /// A key that is edited.
     fn edit(&mut self, octet: u8, queue_full: bool) -> InputAnswer
         ensures terminal { self.new ≡ (spec.after_edited
             (after_key self.old.settings.params octet self.old.held) octet queue_full self.old).terminal }
@@ -135,7 +135,7 @@ impl Terminal {
         InputAnswer::Edited(key.block)
     }
 
-    // Tells the terminal once to stop.
+    /// Tells the terminal once to stop.
     fn stop_device(&mut self)
         ensures { self.new ≡ spec.told_to_stop self.old }
     {
@@ -146,14 +146,14 @@ impl Terminal {
     }
 }
 
-// Whether a key stops the output of the terminal or lets it go on.
+/// Whether a key stops the output of the terminal or lets it go on.
 fn is_flow_control(params: &Params, octet: u8) -> bool
     ensures { result ≡ spec.is_flow_control params.now octet }
 {
     params.has_flow_control() && (octet == DEVICE_CONTROL_ONE || octet == DEVICE_CONTROL_THREE)
 }
 
-// Whether a key is the character that recalls the PAD, if there is one.
+/// Whether a key is the character that recalls the PAD, if there is one.
 fn is_recall(character: Option<u8>, octet: u8) -> bool
     ensures { result ≡ spec.is_recall character octet }
 {

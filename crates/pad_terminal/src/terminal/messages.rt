@@ -68,7 +68,7 @@ impl Terminal {
         Reply::Message(indication(&report))
     }
 
-    // Sets the parameters of pairs, or all to their initial values.
+    /// Sets the parameters of pairs, or all to their initial values.
     fn set_pairs(&mut self, pairs: &Pairs) -> Report
         ensures terminal { self.new ≡ record self.old {
           settings = (spec.after_message_pairs pairs.now.items self.old.settings).settings;
@@ -83,7 +83,7 @@ impl Terminal {
     }
 }
 
-// The pairs with the numbers of their parameters.
+/// The pairs with the numbers of their parameters.
 fn numbered(pairs: &Pairs) -> Pairs
     ensures { result.items ≡ map spec.numbered pairs.now.items }
 {
@@ -94,7 +94,7 @@ fn numbered(pairs: &Pairs) -> Pairs
     numbered
 }
 
-// The numbers of the parameters of pairs.
+/// The numbers of the parameters of pairs.
 fn numbers(pairs: &Pairs) -> ArrayVec<u8, PAIR_LIMIT>
     ensures { result.items ≡ spec.numbers_of pairs.now.items }
 {
@@ -105,7 +105,7 @@ fn numbers(pairs: &Pairs) -> ArrayVec<u8, PAIR_LIMIT>
     numbers
 }
 
-// An indication of refused parameters, if there are any.
+/// An indication of refused parameters, if there are any.
 fn refusals(refused: &Report) -> Reply
     ensures { result ≡ spec.refusals refused.now.items }
 {
@@ -116,7 +116,7 @@ fn refusals(refused: &Report) -> Reply
     }
 }
 
-// An indication of the values and faults of a report.
+/// An indication of the values and faults of a report.
 fn indication(report: &Report) -> Message
     ensures { result ≡ spec.indication report.now.items }
 {
@@ -127,7 +127,7 @@ fn indication(report: &Report) -> Message
     Message::ParameterIndication(pairs)
 }
 
-// A value, or the number of a fault, with bit 8 of the reference.
+/// A value, or the number of a fault, with bit 8 of the reference.
 fn indicated(setting: &Setting) -> (u8, u8)
     ensures { result ≡ spec.indicated setting.now }
 {

@@ -8,11 +8,11 @@ use Rattle.link_timers.specs.declared.role.Role.TheVariants.{Dte, Dce}
 use Rattle.link_timers.specs.Role.{other_of}
 use Rattle.data_transfer.specs.Flow.{modulus}
 use Rattle.data_transfer.specs.declared.flow.Flow.{Flow}
-use Rattle.packet_channel.specs.Channel.{CallState, Channel}
-use Rattle.packet_channel.specs.Channel.CallState.{Ready, OwnWaiting, FarWaiting, Transfer, Collision, OwnClear}
+use Rattle.packet_channel.specs.Channel.{ChannelState, Channel}
+use Rattle.packet_channel.specs.Channel.ChannelState.{Ready, OwnWaiting, FarWaiting, Transfer, Collision, OwnClear}
 use Rattle.packet_layer.specs.Layer.{nth_channel, channel_of}
 use Rattle.packet_laws.specs.History.{Epoch, History}
-use Rattle.packet_laws.specs.Law.{Holds, InUse}
+use Rattle.packet_laws.specs.LayerLineLaw.{Holds, InUse}
 use Rattle.packet_laws.proofs.Line.LineHolds.{line_holds}
 use Rattle.call_records.specs.Records.{RecordValue, PairValue}
 use Rattle.call_records.specs.Book.{Slot, side_of, slot_at}
@@ -33,7 +33,7 @@ use Rattle.record_laws.proofs.Books.Starting.{start_kept}
 -- ---- one use of a channel
 
 -- in any state but data transfer no call was accepted in the present use
-accepted_in : (role : Role) (state : CallState) (st : History) → InUse role state st → (st.epochs st.restart st.use_ 0).answered ≡ true → state ≡ Transfer
+accepted_in : (role : Role) (state : ChannelState) (st : History) → InUse role state st → (st.epochs st.restart st.use_ 0).answered ≡ true → state ≡ Transfer
 accepted_in role Transfer st h e = refl
 accepted_in role Ready st h e = absurd (true≢false (sym e ∙ ap (λ (x : Epoch). x.answered) (h.empty 0)))
 accepted_in role OwnWaiting st h e = absurd (true≢false (sym e ∙ ap (λ (x : Epoch). x.answered) (h.placed 0)))
@@ -137,7 +137,7 @@ module _ (dte_node dce_node channels : ℕ) (flow : Flow) (standing : Bool) (som
   use_is Dce s c = refl
 
   open_status : (x : Role) (c : ℕ) (ch : Channel) → channel_of (layer_at x world) c ≡ Some ch → ch.state ≡ Transfer → (view_at x).status c ≡ Open
-  open_status x c ch at e = status_is x c ∙ ap (λ (o : Option Channel). status_at x o) at ∙ ap (λ (st : CallState). status_at x (Some (record ch { state = st }))) e
+  open_status x c ch at e = status_is x c ∙ ap (λ (o : Option Channel). status_at x o) at ∙ ap (λ (st : ChannelState). status_at x (Some (record ch { state = st }))) e
 
   pub accepted : (i : ℕ) (pair : PairValue) (callee : RecordValue) → slice_get world.book.pairs i ≡ Some pair → slice_get world.book.records pair.callee ≡ Some callee
       → callee.closed ≡ false → IsInTransfer world pair

@@ -4,13 +4,13 @@ use Rattle.std.proofs.Common.{refl, sym, ap, subst, ◌∙◌, arith, true≢fal
 use Rattle.link_timers.specs.declared.role.Role.{Role}
 use Rattle.link_timers.specs.declared.role.Role.TheVariants.{Dte, Dce}
 use Rattle.link_timers.specs.Role.{other_of}
-use Rattle.packet_channel.specs.Channel.{CallState, Channel, may_accept, in_transfer}
-use Rattle.packet_channel.specs.Channel.CallState.{Ready, OwnWaiting, FarWaiting, Transfer, Collision, OwnClear}
+use Rattle.packet_channel.specs.Channel.{ChannelState, Channel, may_accept, in_transfer}
+use Rattle.packet_channel.specs.Channel.ChannelState.{Ready, OwnWaiting, FarWaiting, Transfer, Collision, OwnClear}
 use Rattle.packet_layer.specs.Layer.{channel_of}
 use Rattle.call_records.specs.Records.{PairValue}
 use Rattle.call_records.specs.Book.{Book, Slot, slot_at}
-use Rattle.packet_laws.specs.Law.{Holds}
-use Rattle.packet_laws.specs.Line.{End}
+use Rattle.packet_laws.specs.LayerLineLaw.{Holds}
+use Rattle.packet_laws.specs.LayerLine.{End}
 use Rattle.packet_laws.proofs.Line.LineHolds.{line_holds}
 use Rattle.record_laws.specs.Books.Told.{World, after_all, start, made_callers}
 use Rattle.record_laws.specs.Books.Headline.{IsPaired, HasCallee, AreAnswered, AnsweredLaw, layer_at}
@@ -25,7 +25,7 @@ use Rattle.record_laws.proofs.Books.Placed.{pair_is, has_callee}
 use Rattle.record_laws.proofs.Books.Lines.{KeptIn, all_kept, start_counts}
 use Rattle.record_laws.proofs.Books.Starting.{start_kept}
 
-far_call : (x : Role) (s : CallState) → may_accept x s ≡ true → status_of x s ≡ FarCall
+far_call : (x : Role) (s : ChannelState) → may_accept x s ≡ true → status_of x s ≡ FarCall
 far_call x FarWaiting e = refl
 far_call Dce Collision e = refl
 far_call Dte Collision e = absurd (true≢false (sym e))
@@ -34,7 +34,7 @@ far_call x OwnWaiting e = absurd (true≢false (sym e))
 far_call x Transfer e = absurd (true≢false (sym e))
 far_call x OwnClear e = absurd (true≢false (sym e))
 
-open_call : (x : Role) (s : CallState) → in_transfer s ≡ true → status_of x s ≡ Open
+open_call : (x : Role) (s : ChannelState) → in_transfer s ≡ true → status_of x s ≡ Open
 open_call x Transfer e = refl
 open_call x Ready e = absurd (true≢false (sym e))
 open_call x OwnWaiting e = absurd (true≢false (sym e))
@@ -82,7 +82,7 @@ no_caller : (o : Option ℕ) → is_some o ≡ false → o ≡ None
 no_caller None e = refl
 no_caller (Some n) e = absurd (true≢false e)
 
-transfer_state : (s : CallState) → in_transfer s ≡ true → s ≡ Transfer
+transfer_state : (s : ChannelState) → in_transfer s ≡ true → s ≡ Transfer
 transfer_state Transfer e = refl
 transfer_state Ready e = absurd (true≢false (sym e))
 transfer_state OwnWaiting e = absurd (true≢false (sym e))

@@ -3,8 +3,8 @@ use Rattle.std.specs.Prelude.{◌≡◌, ℕ, Bool, true, false, List, length, O
 use Rattle.std.proofs.Common.{refl, sym, ap, ◌∙◌}
 use Rattle.link_timers.specs.declared.role.Role.{Role}
 use Rattle.link_timers.specs.declared.role.Role.TheVariants.{Dte, Dce}
-use Rattle.packet_channel.specs.Channel.{Channel, CallState}
-use Rattle.packet_channel.specs.Channel.CallState.{Ready, OwnWaiting, FarWaiting, Transfer, Collision, OwnClear}
+use Rattle.packet_channel.specs.Channel.{Channel, ChannelState}
+use Rattle.packet_channel.specs.Channel.ChannelState.{Ready, OwnWaiting, FarWaiting, Transfer, Collision, OwnClear}
 use Rattle.packet_layer.specs.Layer.{channel_of, had_call}
 use Rattle.packet_laws.proofs.Line.LineHolds.{line_holds}
 use Rattle.call_records.specs.Book.{Slot, side_of, slot_at}
@@ -27,7 +27,7 @@ met_call : (x : Role) → is_call (met_status x) ≡ true
 met_call Dte = refl
 met_call Dce = refl
 
-state_call : (x : Role) (s : CallState) → is_call (status_of x s) ≡ had_call s
+state_call : (x : Role) (s : ChannelState) → is_call (status_of x s) ≡ had_call s
 state_call x Ready = refl
 state_call x OwnWaiting = refl
 state_call x FarWaiting = refl

@@ -10,14 +10,14 @@ use Rattle.link_timers.specs.Role.{other_of}
 use Rattle.data_transfer.specs.Flow.{modulus}
 use Rattle.data_transfer.specs.declared.flow.Flow.{Flow}
 use Rattle.data_transfer.specs.Packets.{CallParts}
-use Rattle.packet_channel.specs.Channel.{CallState, Channel}
-use Rattle.packet_channel.specs.Channel.CallState.{Ready, OwnWaiting, FarWaiting, Transfer, Collision, OwnClear}
+use Rattle.packet_channel.specs.Channel.{ChannelState, Channel}
+use Rattle.packet_channel.specs.Channel.ChannelState.{Ready, OwnWaiting, FarWaiting, Transfer, Collision, OwnClear}
 use Rattle.packet_layer.specs.Layer.{channel_of}
 use Rattle.packet_layer.specs.Layer.Phase.{PacketReady}
 use Rattle.packet_laws.specs.History.{Epoch, History, call_accepted}
-use Rattle.packet_laws.specs.Law.{HoldsAt, OneAnswers, CallArrives, CallKnown, InUse, IsUnused, HasPlaced}
+use Rattle.packet_laws.specs.LayerLineLaw.{HoldsAt, OneAnswers, CallArrives, CallKnown, InUse, IsUnused, HasPlaced}
 use Rattle.packet_laws.specs.Counted.{IsCounted}
-use Rattle.packet_laws.specs.Line.{End}
+use Rattle.packet_laws.specs.LayerLine.{End}
 use Rattle.call_records.specs.Records.{RecordValue}
 use Rattle.call_records.specs.Book.{Book, slot_at, side_of, with_change, changed, answers, with_pair, closes, comes, with_record}
 use Rattle.record_laws.proofs.Books.Basics.{number_is, order, dte_not_dce, get_changed}
@@ -108,7 +108,7 @@ not_far_own e = apart_12 (ap status_number e)
 not_far_open : Open ≡ FarCall → ⊥
 not_far_open e = apart_32 (ap status_number e)
 
-unanswered : (x : Role) (s : CallState) (st : History) → status_of x s ≡ FarCall → InUse x s st → (st.epochs st.restart st.use_ 0).answered ≡ false
+unanswered : (x : Role) (s : ChannelState) (st : History) → status_of x s ≡ FarCall → InUse x s st → (st.epochs st.restart st.use_ 0).answered ≡ false
 unanswered x FarWaiting st e u = ap (λ (z : Epoch). z.answered) (u.empty 0)
 unanswered x Collision st e u = ap (λ (z : Epoch). z.answered) (u.placed 0)
 unanswered x Ready st e u = absurd (not_far_idle e)
@@ -374,7 +374,7 @@ module _ (n : ℕ) (x : Role) (e e' y : End) (te ty : ℕ) (b : Book) (cs : List
   comes_after : (parts : CallParts) → came parts → ch.state ≡ Ready → status_of x ch'.state ≡ FarCall → ((st : History) → SameHistory st (told st)) → KeptAt n x e' y te ty (comes x d parts b) (cs ++ (slot_at (other_of x) d b).placed ∷ [])
   comes_after parts c ready m' same =
       let arrival = q.arrival parts c (inl ready) in
-      let unused : IsUnused (e.histories s d) = subst (λ (z : CallState). InUse x z (e.histories s d)) ready use_now in
+      let unused : IsUnused (e.histories s d) = subst (λ (z : ChannelState). InUse x z (e.histories s d)) ready use_now in
       let r = come_step x e e' y s d te ty parts b k.tags (come_at parts arrival (new_use unused arrival.come) m' same) (status_now ∙ ap (status_of x) ready) unused k.right in
       record { tags = r.0; callers = r.1 ∙ ap (λ (l : List (Option ℕ)). l ++ (slot_at (other_of x) d b).placed ∷ []) k.callers; right = r.2; sizes = sized n b (comes x d parts b) (comes_size x d parts b) k.sizes; here = q.end_is; there = k.there }
 
@@ -383,7 +383,7 @@ pub collides_after : (n : ℕ) (x : Role) (e e' y : End) (te ty : ℕ) (b : Book
 collides_after n Dte e e' y te ty b cs s d ch ch' told came k facts q parts c role own m' same = absurd (dte_not_dce role)
 collides_after n Dce e e' y te ty b cs s d ch ch' told came k facts q parts c role own m' same =
     let arrival = q.arrival parts c (inr own) in
-    let placed : HasPlaced (e.histories s d) = subst (λ (z : CallState). InUse Dce z (e.histories s d)) own (use_now n Dce e e' y te ty b cs s d ch ch' told came k facts q) in
+    let placed : HasPlaced (e.histories s d) = subst (λ (z : ChannelState). InUse Dce z (e.histories s d)) own (use_now n Dce e e' y te ty b cs s d ch ch' told came k facts q) in
     let r = collide_step e e' y s d te ty parts b k.tags
     (come_at n Dce e e' y te ty b cs s d ch ch' told came k facts q parts arrival (placed_use n Dce e e' y te ty b cs s d ch ch' told came k facts q placed arrival.come) m' same)
     (ap (status_at Dce) q.found ∙ ap (status_of Dce) own) k.right in

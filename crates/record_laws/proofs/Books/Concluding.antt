@@ -12,7 +12,7 @@ use Rattle.epochs.proofs.MatchedLists.{aligned-match}
 use Rattle.std.proofs.lemmas.List.{length-map}
 use Rattle.data_transfer.specs.Packets.{Datum}
 use Rattle.packet_laws.specs.History.{Epoch}
-use Rattle.packet_laws.specs.Law.{Aligned, HasNoLogs}
+use Rattle.packet_laws.specs.LayerLineLaw.{Aligned, HasNoLogs}
 use Rattle.call_records.specs.Records.{RecordValue, PairValue, taken_epochs}
 use Rattle.call_records.specs.Book.{Book, side_of, packet_of}
 use Rattle.record_laws.specs.Books.Headline.{AreEnds, PairHolds, CallsHold, BookHolds}

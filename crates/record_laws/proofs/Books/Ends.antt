@@ -5,10 +5,10 @@ use Rattle.std.proofs.lemmas.Option.{none-some}
 use Rattle.link_timers.specs.declared.role.Role.{Role}
 use Rattle.data_transfer.specs.Packets.{Note, Reason}
 use Rattle.data_transfer.specs.Packets.Note.{Closed}
-use Rattle.packet_channel.specs.Channel.{CallState, Channel, closed_channel}
-use Rattle.packet_channel.specs.Channel.CallState.{Ready, OwnWaiting, FarWaiting, Transfer, Collision, OwnClear}
+use Rattle.packet_channel.specs.Channel.{ChannelState, Channel, closed_channel}
+use Rattle.packet_channel.specs.Channel.ChannelState.{Ready, OwnWaiting, FarWaiting, Transfer, Collision, OwnClear}
 use Rattle.packet_layer.specs.Layer.{nth_channel, channel_of, closing_notes, had_call}
-use Rattle.packet_laws.specs.Line.{End}
+use Rattle.packet_laws.specs.LayerLine.{End}
 use Rattle.call_records.specs.Book.{Book, Slot, slot_at, told, all_told}
 use Rattle.record_laws.specs.Books.Told.{all_came_by}
 use Rattle.record_laws.proofs.Books.Invariant.{CallStatus, ChannelUse, SlotIs}
@@ -56,7 +56,7 @@ quiet_step n x e e' y te ty b cs k q end = record {
 
 -- ---- all calls of the end are over
 
-call_status : (x : Role) (s : CallState) → (had_call s ≡ true) ⊎ (status_of x s ≡ Idle)
+call_status : (x : Role) (s : ChannelState) → (had_call s ≡ true) ⊎ (status_of x s ≡ Idle)
 call_status x Ready = inr refl
 call_status x OwnWaiting = inl refl
 call_status x FarWaiting = inl refl

@@ -9,10 +9,10 @@ use Rattle.data_transfer.specs.Packets.{CallParts}
 use Rattle.data_transfer.specs.Traffic.{front}
 use Rattle.packet_channel.specs.Channel.{Channel, Step, Request, Refusal, requested, carried_out, unless, refusal}
 use Rattle.packet_channel.specs.Channel.Request.{Accept, Clearing, Resetting, Sending, Interrupting, Stopping, Taking, Releasing, Confirming}
-use Rattle.packet_channel.specs.Channel.CallState.{Ready, OwnWaiting}
+use Rattle.packet_channel.specs.Channel.ChannelState.{Ready, OwnWaiting}
 use Rattle.packet_layer.specs.Layer.{Layer, nth_channel, channel_of, with_nth, on_found, after_step, owing, refusal_at, request_refusal, front_at, front_on}
 use Rattle.packet_laws.specs.History.{History, opened, grown_unless, accepted_unless, logged, requested_history, found_history}
-use Rattle.packet_laws.specs.Line.{End, told, is_session}
+use Rattle.packet_laws.specs.LayerLine.{End, told, is_session}
 use Rattle.call_records.specs.Book.{Book, slot_at, closes}
 use Rattle.record_laws.specs.Books.Told.{carried, unless_refused}
 use Rattle.record_laws.proofs.Books.Basics.{number_is, by_true, by_false}

@@ -7,13 +7,13 @@ use Rattle.data_transfer.specs.Packets.{CallParts, Packet, Body, Reason}
 use Rattle.data_transfer.specs.Packets.Body.{Call, Restart, RestartConfirmation}
 use Rattle.data_transfer.specs.Packets.Reason.{FarRestart, LocalFault}
 use Rattle.data_transfer.specs.Packets.Received.{Whole}
-use Rattle.packet_channel.specs.Channel.{CallState, Channel, Step, closed_channel, received}
-use Rattle.packet_channel.specs.Channel.CallState.{Ready, OwnWaiting}
+use Rattle.packet_channel.specs.Channel.{ChannelState, Channel, Step, closed_channel, received}
+use Rattle.packet_channel.specs.Channel.ChannelState.{Ready, OwnWaiting}
 use Rattle.packet_layer.specs.Layer.{Phase, Layer, nth_channel, channel_of, closing_notes, unread, restart_packet, on_found, on_channel, on_packet, after_step, owing}
 use Rattle.packet_layer.specs.Layer.Phase.{NoSession, OwnRestart, PacketReady}
 use Rattle.packet_laws.specs.History.{History, received_history, packet_history, restart_history, channel_history, next_restart_of}
-use Rattle.packet_laws.specs.Law.{TakesCall}
-use Rattle.packet_laws.specs.Line.{End, accepts, next_of_session, is_session}
+use Rattle.packet_laws.specs.LayerLineLaw.{TakesCall}
+use Rattle.packet_laws.specs.LayerLine.{End, accepts, next_of_session, is_session}
 use Rattle.call_records.specs.Book.{Book, all_told}
 use Rattle.record_laws.specs.Books.Told.{all_came_by}
 use Rattle.record_laws.proofs.Books.Basics.{by_true}
@@ -119,9 +119,9 @@ restart_in n e y te ty b cs s c o body OwnRestart k up phase = counts_only n e y
 restart_in n e y te ty b cs s c o body NoSession k up phase = counts_only n e y te ty b cs s (unread e.layer) (λ d st. st) k refl refl refl (λ d st. history_refl st)
 
 -- on a channel
-takes_call : (s : CallState) → (s ≡ Ready) ⊎ (s ≡ OwnWaiting) → TakesCall s
-takes_call s (inl e) = subst (λ (z : CallState). TakesCall z) (sym e) tt
-takes_call s (inr e) = subst (λ (z : CallState). TakesCall z) (sym e) tt
+takes_call : (s : ChannelState) → (s ≡ Ready) ⊎ (s ≡ OwnWaiting) → TakesCall s
+takes_call s (inl e) = subst (λ (z : ChannelState). TakesCall z) (sym e) tt
+takes_call s (inr e) = subst (λ (z : ChannelState). TakesCall z) (sym e) tt
 
 arrival_of : (n : ℕ) (e y : End) (te ty : ℕ) (b : Book) (cs : List (Option ℕ)) (s d : ℕ) (body : Body) (ch : Channel) → KeptAt n e.layer.role e y te ty b cs → e.session ≡ Some s → next_of_session (record { me = e; you = y }) s ≡ Some (record { channel = d; body = body }) → ty ≤ s → e.layer.phase ≡ PacketReady
     → channel_of e.layer d ≡ Some ch → (parts : CallParts) → body ≡ Call parts → (ch.state ≡ Ready) ⊎ (ch.state ≡ OwnWaiting) → Arrival e y s d ty parts

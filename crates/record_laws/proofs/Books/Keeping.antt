@@ -11,9 +11,9 @@ use Rattle.data_transfer.specs.Traffic.{Taken}
 use Rattle.data_transfer.specs.Traffic.Taken.{TakenInterrupt, TakenPacket}
 use Rattle.packet_channel.specs.Channel.{Request, Refusal}
 use Rattle.packet_channel.specs.Channel.Request.{Accept, Clearing, Resetting, Sending, Interrupting, Stopping, Taking, Releasing, Confirming}
-use Rattle.packet_laws.specs.Line.{Line, Event}
-use Rattle.packet_laws.specs.Line.Event.{Up, Down, Calls, Requests, Expires, Offers, Arrives}
-use Rattle.packet_laws.specs.Line.Happening.{Here, There}
+use Rattle.packet_laws.specs.LayerLine.{Line, Event}
+use Rattle.packet_laws.specs.LayerLine.Event.{Up, Down, Calls, Requests, Expires, Offers, Arrives}
+use Rattle.packet_laws.specs.LayerLine.Happening.{Here, There}
 use Rattle.epochs.specs.Item.{DataPacket}
 use Rattle.call_records.specs.Records.{RecordValue, changed_at, with_step, with_sent, with_interrupt_sent, with_taken, with_interrupt_taken, with_released, with_covered, with_epoch, with_closed}
 use Rattle.call_records.specs.Book.{Book, Slot, packet_of, with_slot, with_change, changed, with_record, with_pair, slot_at, answers, told, all_told}

@@ -7,12 +7,12 @@ use Rattle.link_timers.specs.declared.role.Role.{Role}
 use Rattle.link_timers.specs.declared.role.Role.TheVariants.{Dte, Dce}
 use Rattle.data_transfer.specs.declared.flow.Flow.{Flow}
 use Rattle.data_transfer.specs.Packets.{Body}
-use Rattle.packet_channel.specs.Channel.{CallState, Channel, closed_channel, has_flow}
+use Rattle.packet_channel.specs.Channel.{ChannelState, Channel, closed_channel, has_flow}
 use Rattle.packet_layer.specs.Layer.{Phase, Layer, Next, ChannelNext, nth_channel, channel_of, with_nth, next_packet, next_in, next_restart, serve, serve_found, next_of, next_owed, next_number, is_free, is_ready, free_channel, lowest_free, highest_free, either_of, itself_if, raised}
 use Rattle.packet_layer.specs.Layer.Phase.{NoSession, OwnRestart, PacketReady}
-use Rattle.packet_channel.specs.Channel.CallState.{Ready, OwnWaiting, FarWaiting, Transfer, Collision, OwnClear}
+use Rattle.packet_channel.specs.Channel.ChannelState.{Ready, OwnWaiting, FarWaiting, Transfer, Collision, OwnClear}
 use Rattle.packet_laws.specs.History.{History}
-use Rattle.packet_laws.specs.Line.{End, told, is_session}
+use Rattle.packet_laws.specs.LayerLine.{End, told, is_session}
 use Rattle.record_laws.proofs.Books.Basics.{number_is, by_true, by_false, set_here, set_elsewhere, length_set}
 use Rattle.record_laws.proofs.Books.Invariant.CallStatus.{Idle}
 use Rattle.record_laws.proofs.Books.EndSteps.{status_of, status_at}
@@ -63,7 +63,7 @@ either_way P false a b p q = q
 abbrev FreeAt : List Channel → ℕ → Type 0
 FreeAt chs d = (ch : Channel) × (nth_channel chs d ≡ Some ch) × (ch.state ≡ Ready)
 
-ready_of : (s : CallState) (v : Bool) → (is_ready s && v) ≡ true → s ≡ Ready
+ready_of : (s : ChannelState) (v : Bool) → (is_ready s && v) ≡ true → s ≡ Ready
 ready_of Ready v e = refl
 ready_of OwnWaiting v e = absurd (true≢false (sym e))
 ready_of FarWaiting v e = absurd (true≢false (sym e))

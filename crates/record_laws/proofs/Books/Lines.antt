@@ -11,12 +11,12 @@ use Rattle.pad_editing.specs.Edited.{Step}
 use Rattle.data_transfer.specs.Packets.{Packet, Datum}
 use Rattle.packet_layer.specs.Layer.{link_up, runs, channel_given}
 use Rattle.packet_laws.specs.History.{Epoch}
-use Rattle.packet_laws.specs.Law.{Holds, HasNoLogs, Aligned}
+use Rattle.packet_laws.specs.LayerLineLaw.{Holds, HasNoLogs, Aligned}
 use Rattle.packet_laws.specs.Counted.{IsCounted}
 use Rattle.packet_laws.proofs.Line.Counted.{line_counts}
-use Rattle.packet_laws.specs.Line.{End, Line, Event, Happening, start_line, turned, happens, after, may_begin, begun, offers, accepts, arrives_in, next_of_session}
-use Rattle.packet_laws.specs.Line.Event.{Up, Down, Calls, Requests, Expires, Offers, Arrives}
-use Rattle.packet_laws.specs.Line.Happening.{Here, There}
+use Rattle.packet_laws.specs.LayerLine.{End, Line, Event, Happening, start_line, turned, happens, after, may_begin, begun, offers, accepts, arrives_in, next_of_session}
+use Rattle.packet_laws.specs.LayerLine.Event.{Up, Down, Calls, Requests, Expires, Offers, Arrives}
+use Rattle.packet_laws.specs.LayerLine.Happening.{Here, There}
 use Rattle.call_records.specs.Records.{RecordValue, with_step}
 use Rattle.call_records.specs.Book.{Book, Slot, slot_at, edits, all_told, with_change}
 use Rattle.record_laws.specs.Books.Told.{World, Move, all_came_by, callers_by, callers_after, all_callers, notes_in, notes_by_packet, written, top_after, after_move, after_all, InOrder, IsAllowed, AreAllowed}

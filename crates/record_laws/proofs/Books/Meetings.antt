@@ -8,7 +8,7 @@ use Rattle.link_timers.specs.declared.role.Role.TheVariants.{Dte, Dce}
 use Rattle.data_transfer.specs.Packets.{CallParts}
 use Rattle.packet_layer.specs.Layer.{channel_of}
 use Rattle.packet_laws.specs.History.{Epoch, History, call_accepted, with_answer}
-use Rattle.packet_laws.specs.Line.{End}
+use Rattle.packet_laws.specs.LayerLine.{End}
 use Rattle.call_records.specs.Records.{RecordValue, PairValue, new_record}
 use Rattle.call_records.specs.Book.{Book, Slot, slot_at, with_record, answers, with_pair, comes, closes, address_of}
 use Rattle.record_laws.proofs.Books.Basics.{map_set, number_is, eq_true, by_true, by_false, dte_not_dce}

@@ -8,10 +8,10 @@ use Rattle.link_timers.specs.Role.{other_of}
 use Rattle.data_transfer.specs.Flow.{modulus}
 use Rattle.data_transfer.specs.declared.flow.Flow.{Flow}
 use Rattle.packet_laws.specs.History.{History}
-use Rattle.packet_laws.specs.Law.{Holds, epoch_now}
+use Rattle.packet_laws.specs.LayerLineLaw.{Holds, epoch_now}
 use Rattle.packet_laws.specs.Counted.{IsCounted}
-use Rattle.packet_laws.specs.Line.{Line, Happening, start_line, after}
-use Rattle.packet_laws.specs.Line.Happening.{Here, There}
+use Rattle.packet_laws.specs.LayerLine.{Line, Happening, start_line, after}
+use Rattle.packet_laws.specs.LayerLine.Happening.{Here, There}
 use Rattle.packet_laws.proofs.Line.LineHolds.{line_holds}
 use Rattle.packet_laws.proofs.Line.Counted.{line_counts}
 use Rattle.call_records.specs.Records.{RecordValue}

@@ -13,12 +13,12 @@ use Rattle.data_transfer.specs.Packets.Note.{Covered}
 use Rattle.data_transfer.specs.Traffic.{Traffic, Heard, Taken, front, may_release, in_flight, unreleased, interrupted, covers, keeps, arrives, partner_says, hears, covering}
 use Rattle.data_transfer.specs.Traffic.Heard.{Keeps, Confirms, Wrong}
 use Rattle.data_transfer.specs.Traffic.Taken.{TakenInterrupt, TakenPacket}
-use Rattle.packet_channel.specs.Channel.{CallState, Channel, Request, Refusal, received, received_in, after_heard, in_own_reset, in_flow_ready, carried_out, refusal, refused_if, may_accept, in_transfer}
+use Rattle.packet_channel.specs.Channel.{ChannelState, Channel, Request, Refusal, received, received_in, after_heard, in_own_reset, in_flow_ready, carried_out, refusal, refused_if, may_accept, in_transfer}
 use Rattle.packet_channel.specs.Channel.Request.{Accept, Clearing, Resetting, Sending, Interrupting, Stopping, Taking, Releasing, Confirming}
-use Rattle.packet_channel.specs.Channel.CallState.{Ready, OwnWaiting, FarWaiting, Transfer, Collision, OwnClear}
+use Rattle.packet_channel.specs.Channel.ChannelState.{Ready, OwnWaiting, FarWaiting, Transfer, Collision, OwnClear}
 use Rattle.packet_laws.specs.History.{Epoch, History, opened, heard_history, received_history, grown, logged, logged_heard, with_taken, call_accepted, next_use_of, next_epoch_of}
 use Rattle.packet_laws.specs.Counts.{NamesCounts}
-use Rattle.packet_laws.specs.Law.{epoch_now}
+use Rattle.packet_laws.specs.LayerLineLaw.{epoch_now}
 use Rattle.packet_laws.proofs.Numbers.{covered_is_sent, released_is_taken, beyond_taken}
 use Rattle.epochs.specs.Counted.{counted}
 use Rattle.call_records.specs.Records.{RecordValue, with_sent, with_interrupt_sent, with_interrupt_taken, with_released, with_covered, with_epoch, changed_at}
@@ -361,7 +361,7 @@ unchanged (Some n) b = ap (λ (l : List RecordValue). record b { records = l }) 
 
 -- ---- a packet that comes in
 
-abbrev Got : CallState → Role → Flow → ℕ → Channel → Body → Type 0
+abbrev Got : ChannelState → Role → Flow → ℕ → Channel → Body → Type 0
 Got s x flow d ch body = Outcome x d ch (received_in s x flow d ch body).channel (λ st. opened (received_in s x flow d ch body).owes (heard_history s ch.resetting (hears flow ch.traffic body) st))
     (λ b. all_told x (received_in s x flow d ch body).notes b) (λ b l. all_came_by x (received_in s x flow d ch body).notes b l) (λ parts. body ≡ Call parts)
 
@@ -456,7 +456,7 @@ abbrev is_open : CallStatus → Bool
 is_open Open = true
 is_open s = false
 
-flows : (x : Role) (s : CallState) → status_of x s ≡ Open → in_transfer s ≡ true
+flows : (x : Role) (s : ChannelState) → status_of x s ≡ Open → in_transfer s ≡ true
 flows x Transfer e = refl
 flows x Ready e = absurd (true≢false (sym (ap is_open e)))
 flows x OwnClear e = absurd (true≢false (sym (ap is_open e)))
@@ -493,7 +493,7 @@ got_transfer : (v : Bool) (x : Role) (flow : Flow) (d : ℕ) (ch : Channel) → 
 got_transfer true x flow d ch e body = got_resetting x flow d ch body
 got_transfer false x flow d ch e body = got_ready_flow x flow d ch e body
 
-got_by : (s : CallState) (x : Role) (flow : Flow) (d : ℕ) (ch : Channel) → ch.state ≡ s → (body : Body) → Got s x flow d ch body
+got_by : (s : ChannelState) (x : Role) (flow : Flow) (d : ℕ) (ch : Channel) → ch.state ≡ s → (body : Body) → Got s x flow d ch body
 got_by Ready x flow d ch e body = got_ready x flow d ch e body
 got_by OwnWaiting x flow d ch e body = got_own_waiting x flow d ch e body
 got_by FarWaiting x flow d ch e body = got_far_waiting x flow d ch body
@@ -507,7 +507,7 @@ received_outcome x flow d ch body = got_by ch.state x flow d ch refl body
 
 -- ---- a request
 
-transfer_of : (s : CallState) (more : Option Refusal) (x : Role) → refused_if (not (in_transfer s)) Refusal.NoCall more ≡ None → status_of x s ≡ Open
+transfer_of : (s : ChannelState) (more : Option Refusal) (x : Role) → refused_if (not (in_transfer s)) Refusal.NoCall more ≡ None → status_of x s ≡ Open
 transfer_of Transfer more x e = refl
 transfer_of Ready more x e = absurd (none-some Refusal.NoCall (sym e))
 transfer_of OwnWaiting more x e = absurd (none-some Refusal.NoCall (sym e))
@@ -515,7 +515,7 @@ transfer_of FarWaiting more x e = absurd (none-some Refusal.NoCall (sym e))
 transfer_of Collision more x e = absurd (none-some Refusal.NoCall (sym e))
 transfer_of OwnClear more x e = absurd (none-some Refusal.NoCall (sym e))
 
-accept_of : (x : Role) (s : CallState) → refused_if (not (may_accept x s)) Refusal.NoCall None ≡ None → status_of x s ≡ FarCall
+accept_of : (x : Role) (s : ChannelState) → refused_if (not (may_accept x s)) Refusal.NoCall None ≡ None → status_of x s ≡ FarCall
 accept_of x FarWaiting e = refl
 accept_of Dce Collision e = refl
 accept_of Dte Collision e = absurd (none-some Refusal.NoCall (sym e))

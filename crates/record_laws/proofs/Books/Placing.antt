@@ -6,15 +6,15 @@ use Rattle.std.proofs.lemmas.Bool.{ne_eqb}
 use Rattle.link_timers.specs.declared.role.Role.{Role}
 use Rattle.data_transfer.specs.Packets.{CallParts, Note}
 use Rattle.data_transfer.specs.Packets.Reason.{LinkLost, LocalFault}
-use Rattle.packet_channel.specs.Channel.{CallState, Channel, clear_error, in_transfer}
-use Rattle.packet_channel.specs.Channel.CallState.{Ready}
+use Rattle.packet_channel.specs.Channel.{ChannelState, Channel, clear_error, in_transfer}
+use Rattle.packet_channel.specs.Channel.ChannelState.{Ready}
 use Rattle.packet_layer.specs.Layer as layer
 use Rattle.packet_layer.specs.Layer.{Phase, Layer, Timer, nth_channel, channel_of, with_nth, unread, on_found, after_step, owing, expired, runs, runs_at, waits_for_call, placing, channel_given, link_up, link_down}
 use Rattle.packet_layer.specs.Layer.Phase.{NoSession, OwnRestart, PacketReady}
 use Rattle.packet_layer.specs.Layer.Timer.{RestartTimer, CallTimer, ResetTimer, ClearTimer}
 use Rattle.packet_laws.specs.History.{Epoch, History, placed, call_history, expired_history, next_restart_of, next_use_of}
-use Rattle.packet_laws.specs.Law.{InUse, IsUnused}
-use Rattle.packet_laws.specs.Line.{End, begun, may_begin, is_session}
+use Rattle.packet_laws.specs.LayerLineLaw.{InUse, IsUnused}
+use Rattle.packet_laws.specs.LayerLine.{End, begun, may_begin, is_session}
 use Rattle.call_records.specs.Book.{Book, places_from, closes, with_record, all_told}
 use Rattle.record_laws.specs.Books.Told.{placed_on, placed_by, all_came_by}
 use Rattle.record_laws.proofs.Books.Basics.{number_is}
@@ -62,7 +62,7 @@ call_on n e y te ty b cs parts d ch0 (Some ch) k facts phase found is0 ready0 =
     let hi : d ≤ n = (let h = range.1 in let c = k.here.count in omega arith) in
     let count : length (with_nth e.layer.channels d (owing (placing parts ch))) ≡ length e.layer.channels = put_length e.layer.channels d (owing (placing parts ch)) in
     let at = facts.here s d range.0 hi in
-    let unused : IsUnused (e.histories s d) = subst (λ (z : CallState). InUse x z (e.histories s d)) ready (at.in_use ch up.1 found) in
+    let unused : IsUnused (e.histories s d) = subst (λ (z : ChannelState). InUse x z (e.histories s d)) ready (at.in_use ch up.1 found) in
     let r = place_step x e e' y s d te ty parts b k.tags (record {
       on = record {
         session = refl;

@@ -5,8 +5,8 @@ use Rattle.epochs.specs.Epoch.{nothing_sent, nothing_taken}
 use Rattle.data_transfer.specs.Flow.{modulo_8}
 use Rattle.data_transfer.specs.Packets.{CallParts, Datum}
 use Rattle.packet_channel.specs.Channel.Request.{Accept, Resetting, Sending, Taking, Releasing}
-use Rattle.packet_laws.specs.Line.Happening.{Here, There}
-use Rattle.packet_laws.specs.Line.Event.{Up, Calls, Requests, Offers, Arrives}
+use Rattle.packet_laws.specs.LayerLine.Happening.{Here, There}
+use Rattle.packet_laws.specs.LayerLine.Event.{Up, Calls, Requests, Offers, Arrives}
 use Rattle.call_records.specs.Records.{RecordValue, new_record}
 use Rattle.link_timers.specs.declared.role.Role.TheVariants.{Dte, Dce}
 use Rattle.call_records.specs.Book.{packet_of, slot_at}

@@ -11,7 +11,7 @@ use Rattle.data_transfer.specs.declared.flow.Flow.{Flow}
 use Rattle.packet_channel.specs.Channel.{closed_channel}
 use Rattle.packet_layer.specs.Layer.{nth_channel}
 use Rattle.packet_laws.specs.History.{Epoch, new_history, with_call, with_answer}
-use Rattle.packet_laws.specs.Line.{End, start_end, start_history, no_parts}
+use Rattle.packet_laws.specs.LayerLine.{End, start_end, start_history, no_parts}
 use Rattle.call_records.specs.Records.{RecordValue, PairValue, new_record}
 use Rattle.call_records.specs.Book.{Book, Slot, free_slot, slot_at, side_of, nth_slot, new_book, standing_book}
 use Rattle.record_laws.specs.Books.Told.{start, made_callers}

@@ -8,8 +8,8 @@ use Rattle.link_timers.specs.Role.{other_of}
 use Rattle.data_transfer.specs.Packets.{CallParts}
 use Rattle.packet_layer.specs.Layer.{channel_of}
 use Rattle.packet_laws.specs.History.{Epoch, History, placed, with_call}
-use Rattle.packet_laws.specs.Law.{IsBegun, IsUnused}
-use Rattle.packet_laws.specs.Line.{End}
+use Rattle.packet_laws.specs.LayerLineLaw.{IsBegun, IsUnused}
+use Rattle.packet_laws.specs.LayerLine.{End}
 use Rattle.call_records.specs.Records.{RecordValue, new_record}
 use Rattle.call_records.specs.Book.{Book, Slot, slot_at, side_of, with_slot, with_record, places_from, comes, address_of, calling_from}
 use Rattle.record_laws.proofs.Books.Basics.{number_is, order}

@@ -6,7 +6,7 @@ use Rattle.call_records.specs.Register.{Register, LinePlan, LineEnds, free_ends,
 use Rattle.record_laws.specs.CallPaths.World.{World, Plan, AreAddressed, AreBetween, Event, after_event, after_all, MayAll, without_address, made_world}
 use Rattle.record_laws.specs.CallPaths.World.Event.{Writes, SwitchWrites, Joins}
 use Rattle.record_laws.specs.CallPaths.Seen.{Seen}
-use Rattle.record_laws.specs.CallPaths.Law.{PathLaw, MadeAlikeLaw, WithoutSwitchLaw}
+use Rattle.record_laws.specs.CallPaths.PathLaws.{PathLaw, MadeAlikeLaw, WithoutSwitchLaw}
 use Rattle.record_laws.proofs.CallPaths.SeenAfterEvents.{happens}
 use Rattle.record_laws.proofs.CallPaths.Making.{made_seen}
 use Rattle.record_laws.specs.CallPaths.Tree.{IsTree}

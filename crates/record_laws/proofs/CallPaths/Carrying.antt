@@ -11,7 +11,7 @@ use Rattle.epochs.proofs.Confirms.{confirms_itself, confirms_trans, aligned_conf
 use Rattle.epochs.proofs.Prefixes.{empty-prefix}
 use Rattle.call_records.specs.Records.{RecordValue, sent_epochs, taken_epochs}
 use Rattle.record_laws.specs.Words.{IsTakenFrom, TookNothing, sent_by, taken_by, all_taken_by}
-use Rattle.record_laws.specs.Registers.Promise.{PairHolds}
+use Rattle.record_laws.specs.Registers.RegisterPromise.{PairHolds}
 use Rattle.record_laws.specs.CallPaths.World.{World, Plan}
 use Rattle.record_laws.specs.CallPaths.Seen.{Way}
 use Rattle.record_laws.specs.CallPaths.Parts.{CallsHold, JoinsHold, JoinHolds}

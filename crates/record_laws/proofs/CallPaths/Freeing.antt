@@ -6,7 +6,7 @@ use Rattle.std.proofs.lemmas.List.{append_assoc, append-nil}
 use Rattle.call_records.specs.Book.{Book}
 use Rattle.call_records.specs.Register.{Register, LinePlan, LineEnds, free_ends, planned_book, with_lines, with_line, empty_register}
 use Rattle.record_laws.specs.Registers.Seen as line
-use Rattle.record_laws.specs.Registers.Law.{HaveChannels, HaveNoAddress}
+use Rattle.record_laws.specs.Registers.RegisterLaws.{HaveChannels, HaveNoAddress}
 use Rattle.record_laws.proofs.Registers.Making.{made_seen}
 use Rattle.record_laws.specs.CallPaths.World.{Origin, free_register, without_address}
 use Rattle.record_laws.specs.CallPaths.Lines.{OriginsSeen, AreRecorded, free_book, MadeLinesLaw}

@@ -9,12 +9,12 @@ use Rattle.call_records.specs.Book.{slot_at}
 use Rattle.call_records.specs.Register.{Register, LineEnds, book_at, found_ends}
 use Rattle.record_laws.specs.Books.Headline.{IsOpenHere}
 use Rattle.record_laws.specs.Registers.Seen.{IsNumbered}
-use Rattle.record_laws.specs.Registers.Promise.{IsPresent, HasRecords}
+use Rattle.record_laws.specs.Registers.RegisterPromise.{IsPresent, HasRecords}
 use Rattle.record_laws.proofs.Registers.Promising.{Numbered, numbered}
 use Rattle.record_laws.proofs.Registers.Steps.{same_place}
 use Rattle.record_laws.specs.CallPaths.World.{World, Plan}
 use Rattle.record_laws.specs.CallPaths.Seen.{kind, numbers, shown, RecordIsShown, PresentIsSeen, SlotIsSeen, Seen}
-use Rattle.record_laws.specs.CallPaths.Law.{RecordsLaw}
+use Rattle.record_laws.specs.CallPaths.PathLaws.{RecordsLaw}
 use Rattle.record_laws.proofs.CallPaths.Ways.{numbered_user}
 use Rattle.record_laws.proofs.CallPaths.Showing.{owned}
 

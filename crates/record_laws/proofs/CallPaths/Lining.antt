@@ -10,7 +10,7 @@ use Rattle.record_laws.specs.Books.Headline.{AreEnds}
 use Rattle.record_laws.specs.Books.Headline as book
 use Rattle.record_laws.proofs.Books.Basics.{get_there}
 use Rattle.record_laws.specs.Registers.Seen.{positions, IsNumbered, renumbered, RecordIsSeen}
-use Rattle.record_laws.specs.Registers.Promise as register
+use Rattle.record_laws.specs.Registers.RegisterPromise as register
 use Rattle.record_laws.proofs.Registers.Positions.{IsNth, is_place, place_of, rises_from}
 use Rattle.record_laws.proofs.Registers.Steps.{same_place}
 use Rattle.record_laws.proofs.Registers.Seeing.{line_within}

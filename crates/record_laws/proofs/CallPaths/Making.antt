@@ -8,8 +8,8 @@ use Rattle.call_records.specs.Book.{Side, Slot, free_slot, found_slot, nth_slot,
 use Rattle.call_records.specs.Register.{LinePlan, LineEnds, free_ends, found_ends, book_at}
 use Rattle.record_laws.specs.CallPaths.World.{Plan, AreBetween, without_address, made_world}
 use Rattle.record_laws.specs.CallPaths.Seen.{PresentIsSeen, CallerIsSeen, SlotIsSeen, SideIsSeen}
-use Rattle.record_laws.specs.CallPaths.Promise.{address_at}
-use Rattle.record_laws.specs.CallPaths.Law.{MadeLaw}
+use Rattle.record_laws.specs.CallPaths.PathPromise.{address_at}
+use Rattle.record_laws.specs.CallPaths.PathLaws.{MadeLaw}
 
 nth_free : (n i : ℕ) → found_slot (slice_get (replicate n free_slot) i) ≡ free_slot
 nth_free zero i = refl

@@ -8,9 +8,9 @@ use Rattle.link_timers.specs.Role.{other_of}
 use Rattle.data_transfer.specs.Packets.{Note}
 use Rattle.data_transfer.specs.Packets.Note.{Incoming, Connected, Closed, WasReset, InterruptConfirmed, Covered}
 use Rattle.packet_layer.specs.Layer.{channel_given}
-use Rattle.packet_laws.specs.Line.{Line, Event, turned}
-use Rattle.packet_laws.specs.Line.Event.{Up, Down, Calls, Requests, Expires, Offers, Arrives}
-use Rattle.packet_laws.specs.Line.Happening.{Here, There}
+use Rattle.packet_laws.specs.LayerLine.{Line, Event, turned}
+use Rattle.packet_laws.specs.LayerLine.Event.{Up, Down, Calls, Requests, Expires, Offers, Arrives}
+use Rattle.packet_laws.specs.LayerLine.Happening.{Here, There}
 use Rattle.call_records.specs.Book.{Book, slot_at, told}
 use Rattle.record_laws.specs.Books.Told.{World, Move, came_by, all_came_by, placed_by, callers_by, callers_after, all_callers, made_callers, notes_of, after_move, after_all, start}
 use Rattle.record_laws.specs.Books.Told.Move.{Happens, Edits}

@@ -15,7 +15,7 @@ use Rattle.call_records.specs.Register.{LineEnds, found_ends}
 use Rattle.record_laws.specs.Words.{IsTakenFrom, IsIn, TookNothing, sent_by, taken_by}
 use Rattle.record_laws.proofs.Books.Basics.{get_there, order}
 use Rattle.record_laws.specs.Registers.Seen.{positions}
-use Rattle.record_laws.specs.CallPaths.Promise.{IsOfEnd, address_at, IsPlacedAt, PathHolds, PathsHold}
+use Rattle.record_laws.specs.CallPaths.PathPromise.{IsOfEnd, address_at, IsPlacedAt, PathHolds, PathsHold}
 use Rattle.record_laws.proofs.Registers.Positions.{IsNth, place_of, rises_from}
 use Rattle.record_laws.proofs.Registers.Steps.{same_place}
 use Rattle.record_laws.specs.CallPaths.World.{Origin, Join, placing, World, Plan, AreAddressed, calling_on}
@@ -25,8 +25,8 @@ use Rattle.record_laws.specs.CallPaths.Tree.{WayOver}
 use Rattle.record_laws.specs.CallPaths.Tree.WayOver.{here as stands_here, onward as goes_on}
 use Rattle.record_laws.specs.CallPaths.Paths.{IsPath, ArePaths}
 use Rattle.record_laws.specs.CallPaths.Parts.{CallsHold, JoinsHold, JoinHolds}
-use Rattle.record_laws.specs.CallPaths.Promise.IsPlacedAt.{by_caller, by_switch}
-use Rattle.record_laws.specs.CallPaths.Law.{PromiseLaw}
+use Rattle.record_laws.specs.CallPaths.PathPromise.IsPlacedAt.{by_caller, by_switch}
+use Rattle.record_laws.specs.CallPaths.PathLaws.{PromiseLaw}
 use Rattle.record_laws.proofs.CallPaths.Ways.{along, from_first, stops, one_callee, one_first, numbered_user, kind_user}
 use Rattle.record_laws.proofs.CallPaths.Hopping.{way_of}
 use Rattle.record_laws.proofs.CallPaths.Carrying.{line_confirms, Carried, CarriedTo, carried_along, all_confirmed, all_match, empty_of_empty, took_nothing, are_empty}

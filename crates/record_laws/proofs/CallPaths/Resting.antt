@@ -4,12 +4,12 @@ use Rattle.std.specs.Prelude.{slice_get}
 use Rattle.std.proofs.lemmas.Option.{same_Some, slice_get_within}
 use Rattle.epochs.specs.Epoch.{sent_epoch, taken_epoch}
 use Rattle.call_records.specs.Records.{RecordValue, PairValue}
-use Rattle.record_laws.specs.Books.Rest.{TookAll, NothingMissing}
+use Rattle.record_laws.specs.Books.BookRest.{TookAll, NothingMissing}
 use Rattle.record_laws.proofs.Books.Basics.{get_there}
 use Rattle.record_laws.specs.Registers.Seen.{positions}
 use Rattle.record_laws.specs.CallPaths.World.{Origin, World, Plan}
 use Rattle.record_laws.specs.CallPaths.Seen.{CameFrom, Way, shown, RecordIsShown, PairIsSeen, PairCame, Seen}
-use Rattle.record_laws.specs.CallPaths.Rest.{HandedAll, HasHandedAll, HaveHandedAll, RestLaw}
+use Rattle.record_laws.specs.CallPaths.PathRest.{HandedAll, HasHandedAll, HaveHandedAll, RestLaw}
 use Rattle.record_laws.proofs.CallPaths.Ways.{along}
 
 module _ (plan : Plan) (w : World) (s : Seen plan w) (lines : NothingMissing w.whole.records w.whole.pairs) (joins : HaveHandedAll w) where

@@ -14,7 +14,7 @@ use Rattle.record_laws.proofs.Registers.Seeing.{book_there}
 use Rattle.record_laws.specs.CallPaths.World.{Origin, placing, Join, World, Plan, ChannelEnd, AllPlaceNone, MayJoin, holder_of, with_join, all_traced}
 use Rattle.record_laws.specs.CallPaths.World.Event.{Writes, SwitchWrites, Joins}
 use Rattle.record_laws.specs.CallPaths.Seen.{BeginsIf, IsMadeAt, SideIsSeen, RecordsAreSeen, PairsAreSeen, Seen}
-use Rattle.record_laws.specs.CallPaths.Law.{EventLaw}
+use Rattle.record_laws.specs.CallPaths.PathLaws.{EventLaw}
 use Rattle.record_laws.proofs.CallPaths.Growing.{Extends, more_side}
 use Rattle.record_laws.proofs.CallPaths.Steps.{Beside, IsRight, Leads}
 use Rattle.record_laws.proofs.CallPaths.Writing.{user_writes, switch_writes}

@@ -13,7 +13,7 @@ use Rattle.record_laws.specs.Registers.Seen.{IsNumbered}
 use Rattle.record_laws.proofs.Registers.Steps.{same_place}
 use Rattle.record_laws.specs.CallPaths.World.{World, Plan}
 use Rattle.record_laws.specs.CallPaths.Seen.{kind, numbers, Begins, BeginsIf, PresentIsSeen, CallerIsSeen, SlotIsSeen, PairCame, Seen}
-use Rattle.record_laws.specs.CallPaths.Law.{OwnedLaw, PresentLaw, CameLaw, PairedLaw}
+use Rattle.record_laws.specs.CallPaths.PathLaws.{OwnedLaw, PresentLaw, CameLaw, PairedLaw}
 use Rattle.record_laws.proofs.CallPaths.Ways.{one_first, numbered_user}
 use Rattle.record_laws.proofs.CallPaths.Promising.{pair_for}
 

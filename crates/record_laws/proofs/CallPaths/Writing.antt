@@ -13,7 +13,7 @@ use Rattle.call_records.specs.Writes.Write.{Placed}
 use Rattle.record_laws.specs.Registers.Seen.{IsNumbered}
 use Rattle.record_laws.specs.CallPaths.World.{Origin, placing, coming, Join, Plan, PlacesNone, AllPlaceNone, all_traced, with_placed, calling_on}
 use Rattle.record_laws.specs.CallPaths.Seen.{numbers, BeginsIf, shown, PresentIsSeen, CallerIsSeen, SlotIsSeen}
-use Rattle.record_laws.specs.CallPaths.Promise.{address_at}
+use Rattle.record_laws.specs.CallPaths.PathPromise.{address_at}
 use Rattle.record_laws.specs.CallPaths.Seen.Way.{here}
 use Rattle.record_laws.proofs.CallPaths.Growing.{Extends, more_begins_if, user_extends, switch_extends}
 use Rattle.record_laws.proofs.CallPaths.Records.{IsMild, CallerIsThere}

@@ -13,8 +13,8 @@ use Rattle.record_laws.specs.Books.Headline as line
 use Rattle.record_laws.proofs.Books.Basics.{get_there}
 use Rattle.record_laws.proofs.Books.Placed.{pair_is}
 use Rattle.record_laws.specs.Registers.Seen.{positions, IsNumbered, SlotIsSeen, RecordIsSeen, PairIsSeen, LineIsSeen, Seen, renumbered}
-use Rattle.record_laws.specs.Registers.Promise.{IsPresent, HasRecords}
-use Rattle.record_laws.specs.Registers.Law.{RecordsLaw, CalleeLaw}
+use Rattle.record_laws.specs.Registers.RegisterPromise.{IsPresent, HasRecords}
+use Rattle.record_laws.specs.Registers.RegisterLaws.{RecordsLaw, CalleeLaw}
 use Rattle.record_laws.proofs.Registers.Positions.{is_place}
 use Rattle.record_laws.proofs.Registers.Steps.{same_place}
 use Rattle.record_laws.proofs.Registers.Seeing.{OfLine, of_line}

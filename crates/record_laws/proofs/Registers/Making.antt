@@ -14,7 +14,7 @@ use Rattle.call_records.specs.Writes.Write.{Placed, Told, Asked}
 use Rattle.call_records.specs.Register.{Register, LineEnds, LinePlan, book_at, found_ends, all_written_at, planned_book, free_ends, no_parts, with_standing_call, with_free_line, with_line, with_lines, empty_register}
 use Rattle.record_laws.proofs.Books.Basics.{get_there, get_pushed, get_before, get_last, set_here, length_pushed}
 use Rattle.record_laws.specs.Registers.Seen.{positions, SlotIsSeen, SideIsSeen, LineIsSeen, AreLines, Seen}
-use Rattle.record_laws.specs.Registers.Law.{MadeLaw, HaveChannels, HaveNoAddress}
+use Rattle.record_laws.specs.Registers.RegisterLaws.{MadeLaw, HaveChannels, HaveNoAddress}
 use Rattle.record_laws.proofs.Registers.Positions.{is_place}
 use Rattle.record_laws.proofs.Registers.Seeing.{writes_seen, other_line}
 

@@ -3,9 +3,9 @@ use Rattle.std.proofs.Common.{◌≡◌, ℕ, Option, sym, ap, ◌∙◌}
 use Rattle.std.proofs.lemmas.Option.{same_Some}
 use Rattle.epochs.specs.Epoch.{sent_epoch, taken_epoch}
 use Rattle.call_records.specs.Records.{RecordValue}
-use Rattle.record_laws.specs.Books.Rest.{TookAll}
+use Rattle.record_laws.specs.Books.BookRest.{TookAll}
 use Rattle.record_laws.specs.Registers.Seen.{positions, renumbered, RecordIsSeen}
-use Rattle.record_laws.specs.Registers.Rest.{RestLaw}
+use Rattle.record_laws.specs.Registers.RegisterRest.{RestLaw}
 use Rattle.record_laws.proofs.Registers.Promising.{PairOfLine, pair_of}
 
 -- records of the register and those of the book of their line

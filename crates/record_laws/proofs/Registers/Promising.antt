@@ -12,9 +12,9 @@ use Rattle.record_laws.specs.Books.Headline as line
 use Rattle.record_laws.proofs.Books.Basics.{get_there}
 use Rattle.record_laws.proofs.Books.Placed.{pair_is}
 use Rattle.record_laws.specs.Registers.Seen.{positions, IsNumbered, SlotIsSeen, renumbered, RecordIsSeen, PairIsSeen, LineIsSeen, Seen}
-use Rattle.record_laws.specs.Registers.Promise.{PairHolds, RegisterHolds}
-use Rattle.record_laws.specs.CallPaths.Promise.{IsOfEnd}
-use Rattle.record_laws.specs.Registers.Law.{PromiseLaw, NodeLaw, PairedLaw, IsOfBook, IsAtNoOther}
+use Rattle.record_laws.specs.Registers.RegisterPromise.{PairHolds, RegisterHolds}
+use Rattle.record_laws.specs.CallPaths.PathPromise.{IsOfEnd}
+use Rattle.record_laws.specs.Registers.RegisterLaws.{PromiseLaw, NodeLaw, PairedLaw, IsOfBook, IsAtNoOther}
 use Rattle.record_laws.proofs.Registers.Positions.{IsNth, is_place, place_of, rises_from}
 use Rattle.record_laws.proofs.Registers.Steps.{same_place}
 use Rattle.record_laws.proofs.Registers.Seeing.{OfLine, of_line, line_within}

@@ -11,7 +11,7 @@ use Rattle.call_records.specs.Writes.{written_by, all_written}
 use Rattle.call_records.specs.Register.{Register, LineEnds, book_at, found_ends, with_book}
 use Rattle.record_laws.proofs.Books.Basics.{get_there, get_set, set_here, set_elsewhere, length_set}
 use Rattle.record_laws.specs.Registers.Seen.{positions, IsNumbered, renumbered, RecordIsSeen, PairIsSeen, SideIsSeen, LineIsSeen, AreLines, Seen}
-use Rattle.record_laws.specs.Registers.Law.{WriteLaw, InTurnLaw, PresentLaw, CameLaw, OwnedLaw}
+use Rattle.record_laws.specs.Registers.RegisterLaws.{WriteLaw, InTurnLaw, PresentLaw, CameLaw, OwnedLaw}
 use Rattle.record_laws.proofs.Registers.Positions.{IsNth, place_of}
 use Rattle.record_laws.proofs.Registers.Steps.{Beside, IsRight, Leads}
 use Rattle.record_laws.proofs.Registers.Writing.{writes_go}

@@ -7,9 +7,9 @@ use Rattle.data_transfer.specs.Flow.{modulus, modulo_8}
 use Rattle.data_transfer.specs.declared.flow.Flow.{Flow}
 use Rattle.packet_channel.specs.Channel.Request.{Clearing}
 use Rattle.packet_laws.specs.History.{Epoch}
-use Rattle.packet_laws.specs.Line.{Line}
-use Rattle.packet_laws.specs.Line.Event.{Requests}
-use Rattle.packet_laws.specs.Line.Happening.{Here}
+use Rattle.packet_laws.specs.LayerLine.{Line}
+use Rattle.packet_laws.specs.LayerLine.Event.{Requests}
+use Rattle.packet_laws.specs.LayerLine.Happening.{Here}
 use Rattle.call_records.specs.Records.{RecordValue, PairValue, taken_epochs}
 use Rattle.call_records.specs.Book.{side_of}
 use Rattle.record_laws.specs.Books.Told.{World, Move, after_all, AreAllowed, start}

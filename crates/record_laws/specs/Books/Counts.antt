@@ -7,7 +7,7 @@ use Rattle.epochs.specs.Epoch.{SentEpoch, TakenEpoch, nothing_sent, nothing_take
 use Rattle.data_transfer.specs.Flow.{modulus}
 use Rattle.data_transfer.specs.declared.flow.Flow.{Flow}
 use Rattle.packet_laws.specs.History.{Epoch, empty_epoch}
-use Rattle.packet_laws.specs.Line.{End}
+use Rattle.packet_laws.specs.LayerLine.{End}
 use Rattle.call_records.specs.Records.{RecordValue}
 use Rattle.call_records.specs.Book.{side_of, packet_of}
 use Rattle.record_laws.specs.Books.Told.{World, Move, after_all, AreAllowed, start}

@@ -7,8 +7,8 @@ use Rattle.link_timers.specs.Role.{other_of}
 use Rattle.data_transfer.specs.Flow.{modulus}
 use Rattle.data_transfer.specs.declared.flow.Flow.{Flow}
 use Rattle.packet_laws.specs.History.{Epoch}
-use Rattle.packet_laws.specs.Line.{End, Line}
-use Rattle.packet_laws.specs.Law.{epoch_now}
+use Rattle.packet_laws.specs.LayerLine.{End, Line}
+use Rattle.packet_laws.specs.LayerLineLaw.{epoch_now}
 use Rattle.call_records.specs.Records.{RecordValue, PairValue}
 use Rattle.call_records.specs.Book.{packet_of, slot_at}
 use Rattle.record_laws.specs.Books.Told.{World, Move, after_all, AreAllowed, start}

@@ -10,9 +10,9 @@ use Rattle.data_transfer.specs.Packets.Note.{Incoming}
 use Rattle.data_transfer.specs.Packets.Received.{Whole}
 use Rattle.packet_layer.specs.Layer.{Layer, runs, link_up, link_down, on_packet, on_timer, channel_given}
 use Rattle.packet_layer.specs.Layer.{request_refusal, front_on}
-use Rattle.packet_laws.specs.Line.{Line, Event, Happening, turned, start_line, may_begin, next_of_session, after_one}
-use Rattle.packet_laws.specs.Line.Event.{Up, Down, Calls, Requests, Expires, Arrives}
-use Rattle.packet_laws.specs.Line.Happening.{Here, There}
+use Rattle.packet_laws.specs.LayerLine.{Line, Event, Happening, turned, start_line, may_begin, next_of_session, after_one}
+use Rattle.packet_laws.specs.LayerLine.Event.{Up, Down, Calls, Requests, Expires, Arrives}
+use Rattle.packet_laws.specs.LayerLine.Happening.{Here, There}
 use Rattle.call_records.specs.Book.{Book, slot_at, edits, told, all_told, made_book}
 pub use Rattle.call_records.specs.Carried.{carried, unless_refused, placed_on}
 

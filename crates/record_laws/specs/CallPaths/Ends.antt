@@ -6,7 +6,7 @@ use Rattle.call_records.specs.Records.{RecordValue}
 use Rattle.call_records.specs.Book.{Book, side_of, slot_at}
 use Rattle.call_records.specs.Register.{Register, book_at}
 use Rattle.record_laws.specs.Books.Headline.{HaveRecords, IsPaired, HasCallee}
-use Rattle.record_laws.specs.Registers.Promise.{HasRecords}
+use Rattle.record_laws.specs.Registers.RegisterPromise.{HasRecords}
 use Rattle.record_laws.specs.CallPaths.World.{Origin, World, Plan}
 use Rattle.record_laws.specs.CallPaths.Seen.{Seen}
 use Rattle.record_laws.specs.CallPaths.Lines.{LinesSeen}

@@ -7,9 +7,9 @@ use Rattle.link_timers.specs.declared.role.Role.TheVariants.{Dte, Dce}
 use Rattle.data_transfer.specs.Flow.{modulus}
 use Rattle.data_transfer.specs.declared.flow.Flow.{Flow}
 use Rattle.packet_layer.specs.Layer.{channel_given, request_refusal, front_on}
-use Rattle.packet_laws.specs.Line.{Line, Event, turned}
-use Rattle.packet_laws.specs.Line.Event.{Calls, Requests}
-use Rattle.packet_laws.specs.Line.Happening.{Here, There}
+use Rattle.packet_laws.specs.LayerLine.{Line, Event, turned}
+use Rattle.packet_laws.specs.LayerLine.Event.{Calls, Requests}
+use Rattle.packet_laws.specs.LayerLine.Happening.{Here, There}
 use Rattle.call_records.specs.Records.{RecordValue}
 use Rattle.call_records.specs.Book.{Book, new_book}
 use Rattle.call_records.specs.Writes.{Write, all_written}

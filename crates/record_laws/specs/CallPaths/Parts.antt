@@ -4,8 +4,8 @@ use Rattle.epochs.specs.Confirmed.{Confirms}
 use Rattle.epochs.specs.ConfirmedLaws.{AreEmpty}
 use Rattle.call_records.specs.Records.{RecordValue}
 use Rattle.record_laws.specs.Words.{sent_by, taken_by}
-use Rattle.record_laws.specs.Registers.Promise.{RegisterHolds}
-use Rattle.record_laws.specs.Registers.Promise as line
+use Rattle.record_laws.specs.Registers.RegisterPromise.{RegisterHolds}
+use Rattle.record_laws.specs.Registers.RegisterPromise as line
 use Rattle.record_laws.specs.CallPaths.World.{Origin, World, Plan, calling_on}
 use Rattle.record_laws.specs.CallPaths.Seen.{CameFrom, IsJoined}
 

@@ -9,7 +9,7 @@ use Rattle.call_records.specs.Book.{Slot, Side, nth_slot, side_of}
 use Rattle.call_records.specs.Register.{book_at}
 use Rattle.record_laws.specs.Registers.Seen.{positions, IsNumbered}
 use Rattle.record_laws.specs.CallPaths.World.{Origin, placing, Join, World, Plan, calling_on}
-use Rattle.record_laws.specs.CallPaths.Promise.{address_at}
+use Rattle.record_laws.specs.CallPaths.PathPromise.{address_at}
 
 -- ---- records
 

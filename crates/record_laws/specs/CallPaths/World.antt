@@ -12,7 +12,7 @@ use Rattle.call_records.specs.Book.{Book, slot_at, places_from, told}
 use Rattle.call_records.specs.Writes.{Write, written_by}
 use Rattle.call_records.specs.Writes.Write.{Placed, Told}
 pub use Rattle.call_records.specs.Register.{ChannelEnd}
-pub use Rattle.record_laws.specs.CallPaths.Promise.{Plan, calling_on}
+pub use Rattle.record_laws.specs.CallPaths.PathPromise.{Plan, calling_on}
 use Rattle.call_records.specs.Register.{Register, LinePlan, free_ends, book_at, written_at, all_written_at, holder_at}
 use Rattle.call_records.specs.Register.{handed_on}
 

@@ -1,5 +1,5 @@
 //! Calls that come in (X.25 4.1).
-ghost use Rattle.std.specs.Prelude.{◌≡◌, IfOk, OnErr, slice_get};
+ghost use Rattle.std.specs.Prelude.{◌≡◌, ◌<◌, IfOk, OnErr, length, slice_get};
 ghost use Rattle.std.specs.Option.{option_to_list};
 ghost use Rattle.address_routes.specs.Routes.{line_for};
 ghost use Rattle.packet_codec.specs.Packet.{IsCallValue};
@@ -16,14 +16,15 @@ use packet_layer::{CallFault, Request};
 use switch_joins::{Joined, NewJoin, SwitchChannel};
 
 impl Lines {
-    // A call came in on a channel: it goes on and is joined, or is cleared. Answers the join.
+    /// A call came in on a channel: it goes on and is joined, or is cleared. Answers the join.
     pub(super) fn answer(
         &mut self,
         routes: &Routes,
         leg: SwitchChannel,
         call: &CallData<'_>,
     ) -> Option<NewJoin>
-        requires { IsCallValue (call_view call.now) }
+        requires there { leg.line < length self.old }
+        requires call { IsCallValue (call_view call.now) }
         ensures join { option_to_list result
             ≡ join_of (answer routes.now self.old leg.line (parts_of (call_view call.now))) leg }
         ensures lines { let parts = parts_of (call_view call.now) in
@@ -48,15 +49,16 @@ impl Lines {
         }
     }
 
-    // Lets a call that came on a line go on to the line of its route, and answers the channel there or the cause for
-    // which it cannot.
+    /// Lets a call that came on a line go on to the line of its route, and answers the channel there or the cause for
+    /// which it cannot.
     fn forward(
         &mut self,
         routes: &Routes,
         line: usize,
         call: &CallData<'_>,
     ) -> Result<SwitchChannel, u8>
-        requires { IsCallValue (call_view call.now) }
+        requires there { line < length self.old }
+        requires call { IsCallValue (call_view call.now) }
         ensures answer { answer routes.now self.old line (parts_of (call_view call.now)) ≡ answer_of result }
         ensures ok { IfOk result (λ q. self.new
             ≡ place_call q.line (forwarded self.old line (parts_of (call_view call.now))) self.old) }
@@ -72,8 +74,9 @@ impl Lines {
         self.call(to, &call)
     }
 
-    // The line that a call which came on a line goes on to, if it has a route: one back over a trunk is none.
+    /// The line that a call which came on a line goes on to, if it has a route: one back over a trunk is none.
     fn route(&self, routes: &Routes, line: usize, called: &Address) -> Option<usize>
+        requires { line < length self.now }
         ensures { result ≡ route_from line self.now (line_for routes.now called.now) }
     {
         let to = usize::from(routes.find(called)?.0);
@@ -83,26 +86,22 @@ impl Lines {
         Some(to)
     }
 
-    // A call as it goes on: the calling address is that of the line that it came on, on a trunk the call's own.
+    /// A call as it goes on: the calling address is that of the line that it came on, on a trunk the call's own.
     fn forwarded<'a>(&self, line: usize, call: &CallData<'a>) -> CallData<'a>
-        requires { IsCallValue (call_view call.now) }
+        requires there { line < length self.now }
+        requires call { IsCallValue (call_view call.now) }
         ensures parts { parts_of (call_view result) ≡ forwarded self.now line (parts_of (call_view call.now)) }
         ensures fits { IsCallValue (call_view result) }
     {
-        let address = if line < self.lines.len() {
-            self.lines[line].address()
-        } else {
-            None
-        };
         CallData {
             called: call.called,
-            calling: address.or(call.calling),
+            calling: self.lines[line].address().or(call.calling),
             facilities: &[],
             user_data: call.user_data,
         }
     }
 
-    // Places a call on a line, and answers its channel there or the cause for which there is none.
+    /// Places a call on a line, and answers its channel there or the cause for which there is none.
     fn call(&mut self, line: usize, call: &CallData<'_>) -> Result<SwitchChannel, u8>
         requires { IsCallValue (call_view call.now) }
         ensures answer { answer_on line (slice_get self.old line) ≡ answer_of result }
@@ -121,8 +120,10 @@ impl Lines {
         }
     }
 
-    // The calls on two channels are joined. On the first one it came in.
+    /// The calls on two channels are joined. On the first one it came in.
     fn join(&mut self, caller: SwitchChannel, callee: SwitchChannel)
+        requires caller { caller.line < length self.old }
+        requires callee { callee.line < length self.old }
         ensures { self.new ≡ with_join caller callee self.old }
     {
         let there = Joined {

@@ -25,8 +25,8 @@ use switch_joins::{END_OF_CHANNELS, NewJoin, SwitchChannel};
 /// The most packets that a link has unacknowledged.
 const MOST_PACKETS: usize = 7;
 
-// The channel that the packet of an I frame names, if it is one of a line: its packet begins with the third octet. There
-// is no channel 0.
+/// The channel that the packet of an I frame names, if it is one of a line: its packet begins with the third octet. There
+/// is no channel 0.
 fn named_in(octets: &[u8]) -> u8
     ensures { (c : ℕ) → named_channel (drop 2 octets.now) ≡ Some c → c < 63 → c ≡ result }
 {
@@ -99,8 +99,8 @@ impl Lines {
         self.settle(all_offered);
     }
 
-    // Settles the lines on which something happened, which is all of them that need it. Then nothing is left to do
-    // there, if all was offered.
+    /// Settles the lines on which something happened, which is all of them that need it. Then nothing is left to do
+    /// there, if all was offered.
     fn settle(&mut self, all_offered: bool)
         requires offered { all_offered ≡ true → list_any may_offer self.old ≡ false }
         requires relinked { to_relink self.old ≡ None }
@@ -113,8 +113,8 @@ impl Lines {
         }
     }
 
-    // Sets up anew each link of which its packet layer asks for it, and adds its line to the list. That may close calls
-    // of other lines, and ask for it there.
+    /// Sets up anew each link of which its packet layer asks for it, and adds its line to the list. That may close calls
+    /// of other lines, and ask for it there.
     fn relink_all(&mut self, routes: &Routes, concerned: &mut LineList)
         requires read { AreRead self.old }
         requires room { array_vec_len concerned.old ≡ 1 }
@@ -131,16 +131,16 @@ impl Lines {
         }
     }
 
-    // The first line whose packet layer asks for it.
+    /// The first line whose packet layer asks for it.
     fn to_relink(&self) -> Option<usize>
         ensures { result ≡ to_relink self.now }
     {
         first_to_relink(&self.lines, self.touched)
     }
 
-    // What waits on the joins of these lines is relayed and packets are offered to the links, and then the same for the
-    // lines whose links took one, until the links take no more. Answers whether that was seen, in as many rounds as
-    // links of at most seven packets need.
+    /// What waits on the joins of these lines is relayed and packets are offered to the links, and then the same for the
+    /// lines whose links took one, until the links take no more. Answers whether that was seen, in as many rounds as
+    /// links of at most seven packets need.
     fn relay_and_offer(&mut self, concerned: &LineList) -> bool
         ensures lines { self.new ≡ offered_alone concerned.now.items self.old }
         ensures all { result ≡ true → list_any may_offer self.new ≡ false }
@@ -156,7 +156,7 @@ impl Lines {
         false
     }
 
-    // Offers packets to the links, in the order of the lines, and answers which took one.
+    /// Offers packets to the links, in the order of the lines, and answers which took one.
     fn offer(&mut self) -> LineList
         ensures offering { result.items ≡ offering_from 0 self.old }
         ensures lines { self.new ≡ map (with_end end.all_offered) self.old }

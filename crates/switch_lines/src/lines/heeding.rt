@@ -1,5 +1,5 @@
 //! All that a line tells.
-ghost use Rattle.std.specs.Prelude.{◌≡◌, length, slice_get};
+ghost use Rattle.std.specs.Prelude.{◌≡◌, ◌<◌, length, slice_get};
 ghost use Rattle.std.specs.Option.{option_to_list};
 ghost use Rattle.packet_end.specs.PacketEnd.{without_first_note};
 ghost use Rattle.packet_channel.specs.NoteView.{note_of, maybe_note};
@@ -14,8 +14,9 @@ use packet_layer::LayerNote;
 use switch_joins::{NewJoin, SwitchChannel};
 
 impl Lines {
-    // Heeds all that the end of a line tells, and answers the first call that is joined then, if one is.
+    /// Heeds all that the end of a line tells, and answers the first call that is joined then, if one is.
     pub(super) fn heed_line(&mut self, routes: &Routes, line: usize) -> Option<NewJoin>
+        requires { line < length self.old }
         ensures join { result ≡ slice_get (joins_heeded routes.now line self.old) 0 }
         ensures lines { self.new ≡ notes_heeded routes.now line self.old }
     {
@@ -29,8 +30,9 @@ impl Lines {
         joined
     }
 
-    // What a note of a line makes of the joins. Answers the call that it joins, if it does.
+    /// What a note of a line makes of the joins. Answers the call that it joins, if it does.
     fn heed(&mut self, routes: &Routes, line: usize, note: LayerNote) -> Option<NewJoin>
+        requires { line < length self.old }
         ensures join { option_to_list result ≡ joins_of_note routes.now line (note_of note) self.old }
         ensures lines { self.new ≡ heed routes.now line (note_of note) self.old }
     {
@@ -62,26 +64,20 @@ impl Lines {
         None
     }
 
-    // How many notes of a line wait.
+    /// How many notes of a line wait.
     fn waiting_notes(&self, line: usize) -> usize
+        requires { line < length self.now }
         ensures { result ≡ length (notes_on self.now line) }
     {
-        if line < self.lines.len() {
-            self.lines[line].waiting_notes()
-        } else {
-            0
-        }
+        self.lines[line].waiting_notes()
     }
 
-    // Takes the next note of a line, if there is one.
+    /// Takes the next note of a line, if there is one.
     fn notes(&mut self, line: usize) -> Option<LayerNote>
+        requires { line < length self.old }
         ensures note { maybe_note result ≡ slice_get (notes_on self.old line) 0 }
         ensures lines { self.new ≡ changed line (with_end without_first_note) self.old }
     {
-        if line < self.lines.len() {
-            self.lines[line].notes()
-        } else {
-            None
-        }
+        self.lines[line].notes()
     }
 }

@@ -13,8 +13,8 @@ use switch_joins::SwitchChannel;
 const MOST_WAITING: usize = 33;
 
 impl Lines {
-    // What waits first on a joined channel is taken there and goes on to the other leg, unless that one would refuse some
-    // of what it makes due. Answers whether it was.
+    /// What waits first on a joined channel is taken there and goes on to the other leg, unless that one would refuse some
+    /// of what it makes due. Answers whether it was.
     fn relay_one(&mut self, leg: SwitchChannel) -> bool
         ensures lines { self.new ≡ moved leg self.old }
         ensures stuck { OnFalse result (IsStuck self.old leg) }
@@ -33,8 +33,8 @@ impl Lines {
         true
     }
 
-    // All that waits on a channel goes to the other leg of its join, as far as that one takes it. Answers whether that
-    // was seen, in as many moves as a leg can have waiting.
+    /// All that waits on a channel goes to the other leg of its join, as far as that one takes it. Answers whether that
+    /// was seen, in as many moves as a leg can have waiting.
     fn relay_channel(&mut self, leg: SwitchChannel) -> bool
         ensures lines { self.new ≡ relayed most_moves leg self.old }
         ensures stuck { OnTrue result (IsStuck self.new leg) }
@@ -47,7 +47,7 @@ impl Lines {
         false
     }
 
-    // Nothing that waits on a joined channel and on the other leg of its join can go on: that join is not to be relayed.
+    /// Nothing that waits on a joined channel and on the other leg of its join can go on: that join is not to be relayed.
     fn rest_join(&mut self, leg: SwitchChannel, other: SwitchChannel)
         requires joined { other_at self.old leg ≡ Some other }
         requires back { other_at self.old other ≡ Some leg }
@@ -63,7 +63,7 @@ impl Lines {
         self.to_relay.remove(other);
     }
 
-    // A channel that is not joined is not to be relayed.
+    /// A channel that is not joined is not to be relayed.
     fn forget(&mut self, leg: SwitchChannel)
         requires { other_at self.old leg ≡ None }
         ensures { self.new ≡ self.old }
@@ -71,14 +71,14 @@ impl Lines {
         self.to_relay.remove(leg);
     }
 
-    // Whether a channel is joined to another one.
+    /// Whether a channel is joined to another one.
     fn is_joined_to(&self, leg: SwitchChannel, other: SwitchChannel) -> bool
         ensures { OnTrue result (other_at self.now leg ≡ Some other) }
     {
         self.other(leg) == Some(other)
     }
 
-    // All that waits on a joined channel and on the other leg of its join goes on.
+    /// All that waits on a joined channel and on the other leg of its join goes on.
     fn relay_join(&mut self, leg: SwitchChannel)
         ensures { self.new ≡ relayed_from (both_legs (joined_at self.old leg) leg) self.old }
     {
@@ -93,12 +93,12 @@ impl Lines {
         }
     }
 
-    // The same of all joined channels of a line: those that are to be relayed are all of which anything can go on.
+    /// The same of all joined channels of a line: those that are to be relayed are all of which anything can go on.
     fn relay_line(&mut self, line: usize)
         ensures { self.new ≡ relayed_from (legs_at (places_of line (slice_get self.old line)) self.old) self.old }
     {
         if line < self.lines.len() {
-            let end = self.lines[line].channels() + 1;
+            let end = self.lines[line].joins().channels() + 1;
             let mut next = 1;
             while let Some(channel) = self.to_relay.first_between(line, next, end) {
                 self.relay_join(SwitchChannel { line, channel });

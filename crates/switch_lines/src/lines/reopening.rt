@@ -10,7 +10,7 @@ use joined_line::SwitchLine;
 use number_set::NumberSet;
 use switch_joins::{ChannelSet, END_OF_CHANNELS, SwitchChannel};
 
-// No channel of these lines is known to refuse anything: the joins of those that were are to be relayed.
+/// No channel of these lines is known to refuse anything: the joins of those that were are to be relayed.
 pub(super) fn reopen(
     lines: &[SwitchLine],
     mut which: NumberSet,
@@ -27,7 +27,7 @@ pub(super) fn reopen(
     }
 }
 
-// The same of one line.
+/// The same of one line.
 fn reopen_line(
     lines: &[SwitchLine],
     line: usize,

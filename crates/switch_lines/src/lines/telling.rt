@@ -10,7 +10,7 @@ use packet_layer::{Reason, Request};
 use switch_joins::SwitchChannel;
 
 impl Lines {
-    // The call on a channel was accepted there.
+    /// The call on a channel was accepted there.
     #[tactic(auto, using(crate::proofs::Telling::tells_connected, crate::proofs::Telling::tells_no_one))]
     pub(super) fn tell_connected(&mut self, leg: SwitchChannel)
         ensures { self.new ≡ told (note.Connected leg.channel) leg self.old }
@@ -20,7 +20,7 @@ impl Lines {
         }
     }
 
-    // The call on a channel is over: so is the join, and the call on the other leg.
+    /// The call on a channel is over: so is the join, and the call on the other leg.
     #[tactic(auto, using(crate::proofs::Telling::tells_closed, crate::proofs::Telling::tells_no_one))]
     pub(super) fn tell_closed(
         &mut self,
@@ -45,7 +45,7 @@ impl Lines {
         self.ask(other, &request);
     }
 
-    // The call on a channel was reset: so is the other leg, unless its own reset is unconfirmed.
+    /// The call on a channel was reset: so is the other leg, unless its own reset is unconfirmed.
     #[tactic(auto, using(crate::proofs::Telling::tells_reset, crate::proofs::Telling::tells_no_one))]
     pub(super) fn tell_reset(
         &mut self,
@@ -69,7 +69,7 @@ impl Lines {
         self.renew(other);
     }
 
-    // The interrupt that was sent on a channel is confirmed there: so is the one that was taken on the other leg.
+    /// The interrupt that was sent on a channel is confirmed there: so is the one that was taken on the other leg.
     #[tactic(auto, using(crate::proofs::Telling::tells_confirmed, crate::proofs::Telling::tells_no_one))]
     pub(super) fn tell_confirmed(&mut self, leg: SwitchChannel)
         ensures { self.new ≡ told (note.InterruptConfirmed leg.channel) leg self.old }
@@ -79,8 +79,8 @@ impl Lines {
         }
     }
 
-    // A P(R) newly covered so many packets that were sent on a channel: what waited for that is released on the other
-    // leg.
+    /// A P(R) newly covered so many packets that were sent on a channel: what waited for that is released on the other
+    /// leg.
     #[tactic(auto, using(crate::proofs::Telling::tells_covered, crate::proofs::Telling::tells_no_one))]
     pub(super) fn tell_covered(&mut self, leg: SwitchChannel, count: u8)
         ensures { self.new ≡ told (note.Covered leg.channel count) leg self.old }

@@ -15,7 +15,7 @@ use joined_line::SwitchLine;
 use number_set::NumberSet;
 use switch_joins::MOST_LINES;
 
-// Begins an event on these lines.
+/// Begins an event on these lines.
 pub(super) fn begin_lines(lines: &mut [SwitchLine], mut which: NumberSet)
     requires { AreThere which (plain lines.old) }
     ensures { lines.new ≡ changed_in which (on_line (with_end end.begun)) 0 lines.old }
@@ -25,7 +25,7 @@ pub(super) fn begin_lines(lines: &mut [SwitchLine], mut which: NumberSet)
     }
 }
 
-// Ends an event on these lines.
+/// Ends an event on these lines.
 pub(super) fn settle_lines(lines: &mut [SwitchLine], mut which: NumberSet, pool: &mut Pool)
     requires there { AreThere which (plain lines.old) }
     requires pool { ArePooled pool.old lines.old }
@@ -39,7 +39,7 @@ pub(super) fn settle_lines(lines: &mut [SwitchLine], mut which: NumberSet, pool:
     }
 }
 
-// Offers packets to the links of these lines, in order, and answers which of them took one.
+/// Offers packets to the links of these lines, in order, and answers which of them took one.
 pub(super) fn offer_lines(
     lines: &mut [SwitchLine],
     mut which: NumberSet,
@@ -61,7 +61,7 @@ pub(super) fn offer_lines(
     offering
 }
 
-// All lines begin anew.
+/// All lines begin anew.
 pub(super) fn restart_lines(lines: &mut [SwitchLine], pool: &mut Pool)
     requires { ArePooled pool.old lines.old }
     ensures lines { plain lines.new ≡ map without_joins (plain lines.old) }
@@ -72,7 +72,7 @@ pub(super) fn restart_lines(lines: &mut [SwitchLine], pool: &mut Pool)
     }
 }
 
-// The first of these lines whose packet layer asks for a link that is set up anew.
+/// The first of these lines whose packet layer asks for a link that is set up anew.
 pub(super) fn first_to_relink(lines: &[SwitchLine], mut which: NumberSet) -> Option<usize>
     requires { AreThere which (plain lines.now) }
     ensures { result ≡ first_to_relink which 0 (plain lines.now) }

@@ -1,7 +1,6 @@
 //! What is taken on one leg of a join goes on to the other one, also if the packet sizes of their lines differ (X.25
 //! 4.3.4).
 ghost use Rattle.std.specs.Prelude.{◌≡◌, ◌<◌, ◌≤◌, [], ◌∷◌, Some, length, map, slice_get};
-ghost use Rattle.std.specs.Bool.{OnTrue};
 ghost use Rattle.packet_channel.specs.Channel.{Request as ask_for};
 ghost use Rattle.data_transfer.specs.Packets.{Datum};
 ghost use Rattle.data_transfer.specs.TakenView.{maybe_front, maybe_taken};
@@ -18,7 +17,7 @@ use joined_line::SwitchLine;
 use packet_layer::{Front, Request, Taken, TakenBuf, UserData};
 use switch_joins::{Outline, Sizes, SwitchChannel};
 
-// The packet sizes of the lines of two channels.
+/// The packet sizes of the lines of two channels.
 fn sizes_of(lines: &[SwitchLine], leg: SwitchChannel, other: SwitchChannel) -> Sizes
     requires there { leg.line < length lines.now }
     requires other { other.line < length lines.now }
@@ -29,7 +28,7 @@ fn sizes_of(lines: &[SwitchLine], leg: SwitchChannel, other: SwitchChannel) -> S
 }
 
 impl Lines {
-    // The packet sizes of the lines of two channels.
+    /// The packet sizes of the lines of two channels.
     fn sizes(&self, leg: SwitchChannel, other: SwitchChannel) -> Sizes
         requires there { leg.line < length self.now }
         requires other { other.line < length self.now }
@@ -38,15 +37,14 @@ impl Lines {
         sizes_of(&self.lines, leg, other)
     }
 
-    // Whether the other leg of a join takes every packet that the first one on a channel makes due.
+    /// Whether the other leg of a join takes every packet that the first one on a channel makes due.
     pub(super) fn may_take(&self, leg: SwitchChannel, other: SwitchChannel, front: Front) -> bool
-        requires { maybe_front (front_at self.now leg) ≡ Some front }
-        ensures takes { TakesFront result self.now leg other }
-        ensures there { OnTrue result (other.line < length self.now) }
+        requires there { leg.line < length self.now }
+        requires other { other.line < length self.now }
+        requires front { maybe_front (front_at self.now leg) ≡ Some front }
+        ensures { TakesFront result self.now leg other }
     {
-        let Some(far) = self.lines.get(other.line) else {
-            return false;
-        };
+        let far = &self.lines[other.line];
         match front {
             Front::Interrupt => far.may_interrupt(other.channel),
             Front::Data {
@@ -62,8 +60,8 @@ impl Lines {
                     delivery,
                 };
                 let sizes = self.sizes(leg, other);
-                let near = &self.lines[leg.line];
-                match near.packets_due(leg.channel, sizes, packet, &self.pool) {
+                let joins = self.lines[leg.line].joins();
+                match joins.due(leg.channel, sizes, packet, &self.pool) {
                     Some(due) => due <= usize::from(far.room(other.channel)),
                     None => false,
                 }
@@ -71,7 +69,7 @@ impl Lines {
         }
     }
 
-    // What waits first on a joined channel is taken there, and goes on to the other leg.
+    /// What waits first on a joined channel is taken there, and goes on to the other leg.
     pub(super) fn move_front(&mut self, leg: SwitchChannel, other: SwitchChannel)
         requires there { leg.line < length self.old }
         requires other { other.line < length self.old }
@@ -79,14 +77,14 @@ impl Lines {
         ensures { MovesFront (front_at self.old leg) leg other self.old self.new }
     {
         let sizes = self.sizes(leg, other);
-        if self.lines[leg.line].goes_whole(leg.channel, sizes) {
+        if self.lines[leg.line].joins().goes_whole(leg.channel, sizes) {
             self.move_whole(leg, other);
         } else {
             self.move_turned(leg, other);
         }
     }
 
-    // The same where a packet goes on as it is, in its buffer.
+    /// The same where a packet goes on as it is, in its buffer.
     fn move_whole(&mut self, leg: SwitchChannel, other: SwitchChannel)
         requires there { leg.line < length self.old }
         requires other { other.line < length self.old }
@@ -111,17 +109,16 @@ impl Lines {
         }
     }
 
-    // A packet was taken on a joined channel, with D = 1 or without, and went on as it is.
+    /// A packet was taken on a joined channel, with D = 1 or without, and went on as it is.
     fn pass(&mut self, leg: SwitchChannel, delivery: bool)
-        requires { gathered_by (joined_at self.old leg) ≡ nothing_gathered }
+        requires there { leg.line < length self.old }
+        requires nothing { gathered_by (joined_at self.old leg) ≡ nothing_gathered }
         ensures { (d : Datum) → self.new ≡ kept_at leg (carried delivery (all_made (d ∷ []))) self.old }
     {
-        if leg.line < self.lines.len() {
-            self.lines[leg.line].pass(leg.channel, delivery);
-        }
+        self.lines[leg.line].pass(leg.channel, delivery);
     }
 
-    // What waits first on a joined channel is taken there, and what it makes due goes on to the other leg.
+    /// What waits first on a joined channel is taken there, and what it makes due goes on to the other leg.
     fn move_turned(&mut self, leg: SwitchChannel, other: SwitchChannel)
         requires there { leg.line < length self.old }
         requires other { other.line < length self.old }
@@ -136,7 +133,7 @@ impl Lines {
         }
     }
 
-    // Takes what waits first on a channel, if anything.
+    /// Takes what waits first on a channel, if anything.
     fn take(&mut self, leg: SwitchChannel) -> Option<Taken>
         requires { leg.line < length self.old }
         ensures taken { maybe_taken result ≡ front_at self.old leg }
@@ -147,7 +144,7 @@ impl Lines {
         self.lines[leg.line].take(leg.channel, &mut self.pool)
     }
 
-    // What a packet that was taken on a joined channel makes due is sent on the other leg, and what is left is gathered.
+    /// What a packet that was taken on a joined channel makes due is sent on the other leg, and what is left is gathered.
     fn turn(&mut self, leg: SwitchChannel, other: SwitchChannel, packet: &UserData)
         requires there { leg.line < length self.old }
         requires other { other.line < length self.old }
@@ -156,8 +153,8 @@ impl Lines {
             (ask_all other (map ask_for.Sending turn.made) self.old) }
     {
         let sizes = sizes_of(&self.lines, leg, other);
-        let near = &self.lines[leg.line];
-        let turned = near.turned(leg.channel, sizes, packet, &self.pool);
+        let joins = self.lines[leg.line].joins();
+        let turned = joins.turned(leg.channel, sizes, packet, &self.pool);
         self.touched.insert(other.line);
         self.lines[other.line].send_all(other.channel, &turned, &mut self.pool);
         self.to_relay.insert_join(leg, other_of(&self.lines, leg));

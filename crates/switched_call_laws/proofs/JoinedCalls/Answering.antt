@@ -8,7 +8,7 @@ use Rattle.link_timers.specs.declared.role.Role.TheVariants.{Dce}
 use Rattle.packet_codec.specs.Diagnostic.{no_information}
 use Rattle.data_transfer.specs.Packets.{CallParts, Note}
 use Rattle.data_transfer.specs.Packets.Note.{Incoming, Connected, Closed, WasReset, InterruptConfirmed, Covered}
-use Rattle.packet_channel.specs.Channel.{CallState, Channel, had_call, is_ready, is_free}
+use Rattle.packet_channel.specs.Channel.{ChannelState, Channel, had_call, is_ready, is_free}
 use Rattle.packet_channel.specs.Channel.Request.{Clearing}
 use Rattle.packet_layer.specs.Layer.{Layer, channel_of, channel_given}
 use Rattle.packet_laws.specs.Readable.{Every}
@@ -331,7 +331,7 @@ module _ (routes : RouteMap) (given : List (Option (List ℕ))) (R : Books → L
       subst (λ (o : Option Joined). Walked (And AreCalls R) (told_steps o note (at n d) ls ++ heed_all_steps routes n ns (told_of o note (at n d) ls)) ls bs cs (heed_all routes n ns (told_of o note (at n d) ls)))
       (sym (ap (λ (k : ℕ). joined_at ls (at n k)) e ∙ none)) h
 
-  pub alone_walk : (n c : ℕ) (role : Role) (s : CallState) (ns : List Note) (ls : List SwitchLine) (bs : Books) (cs : List JoinedCall) → AreOf c role s ns → Alone n c ns ls bs cs
+  pub alone_walk : (n c : ℕ) (role : Role) (s : ChannelState) (ns : List Note) (ls : List SwitchLine) (bs : Books) (cs : List JoinedCall) → AreOf c role s ns → Alone n c ns ls bs cs
       → Walked (And AreCalls R) (heed_all_steps routes n ns ls) ls bs cs (heed_all routes n ns ls)
   alone_walk n c role s [] ls bs cs of i = walked_quiet (And AreCalls R) [] ls bs cs ls refl refl (i.calls, i.kept)
   alone_walk n c role s (Incoming d parts ∷ ns) ls bs cs of i =

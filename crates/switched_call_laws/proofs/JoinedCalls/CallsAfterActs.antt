@@ -9,8 +9,8 @@ use Rattle.packet_codec.specs.ClearCause as clear_cause
 use Rattle.packet_codec.specs.Diagnostic.{no_information}
 use Rattle.data_transfer.specs.Packets.{CallParts, Note, Reason}
 use Rattle.data_transfer.specs.Packets.Note.{Incoming, Connected, Closed, WasReset, InterruptConfirmed, Covered}
-use Rattle.packet_channel.specs.Channel.{CallState, Channel, Step, may_accept, waits_for_call, in_transfer, entered, had_call}
-use Rattle.packet_channel.specs.Channel.CallState.{Transfer}
+use Rattle.packet_channel.specs.Channel.{ChannelState, Channel, Step, may_accept, waits_for_call, in_transfer, entered, had_call}
+use Rattle.packet_channel.specs.Channel.ChannelState.{Transfer}
 use Rattle.packet_channel.specs.Channel.Request.{Accept}
 use Rattle.packet_layer.specs.Layer.{Layer, channel_of, closing_notes}
 use Rattle.packet_laws.specs.History.{Epoch}
@@ -73,7 +73,7 @@ use Rattle.switch_lines.proofs.Places.{joined_kept}
 -- ---- what notes write
 
 -- notes of one channel
-pub of_touches : (d : ℕ) (role : Role) (s : CallState) (ns : List Note) (b : Book) → AreOf d role s ns → Touches Dce d b (all_told Dce ns b)
+pub of_touches : (d : ℕ) (role : Role) (s : ChannelState) (ns : List Note) (b : Book) → AreOf d role s ns → Touches Dce d b (all_told Dce ns b)
 of_touches d role s [] b of = touches_none Dce d b
 of_touches d role s (Incoming c parts ∷ ns) b of =
     subst (λ (more : List Note). Touches Dce d b (all_told Dce (Incoming c parts ∷ more) b)) (sym of.1.1)
@@ -201,7 +201,7 @@ waiting_placed false g h i e = refl
 
 waits_placed : (g h : Leg) (j k : Joined) → IsPair g h j k → waits_for_call g.role g.channel.state ≡ true → j.came_in ≡ false
 waits_placed g h j k (waiting a b i) e = waiting_placed j.came_in g h i e
-waits_placed g h j k (connected i) e = absurd (true≢false (sym (ap (λ (x : CallState). in_transfer x) i.there.holds.near_call) ∙ waiting_before g.role g.channel.state e))
+waits_placed g h j k (connected i) e = absurd (true≢false (sym (ap (λ (x : ChannelState). in_transfer x) i.there.holds.near_call) ∙ waiting_before g.role g.channel.state e))
 
 -- ---- what happens at the end of a line
 
@@ -396,7 +396,7 @@ module _ (routes : RouteMap) (n : ℕ) (what : Happening) (ls : List SwitchLine)
 
     -- ---- notes of one channel
 
-    module _ (d : ℕ) (role : Role) (s : CallState) (of : AreOf d role s notes) where
+    module _ (d : ℕ) (role : Role) (s : ChannelState) (of : AreOf d role s notes) where
       abbrev p : SwitchChannel
       p = at n d
 
@@ -530,7 +530,7 @@ module _ (routes : RouteMap) (n : ℕ) (what : Happening) (ls : List SwitchLine)
             let has : HasSlot d (bs n) = (h n l got_layer).slots d (ap (λ (o : Option Channel). is_some o) found) in
             let k : WrittenIn d parts (bs1 n) = subst (λ (b : Book). WrittenIn d parts b) (sym here_book) (last_written d (w (at n d)).role _ parts notes (bs n) of noted has) in
             let may : may_accept y.0.role y.0.channel.state ≡ true =
-            ap₂ (λ (r : Role) (c : CallState). may_accept r c) (ap (λ (z : Shown). z.role) (world_ms (at n d) y.0 y.1).shown ∙ role_is) (ap (λ (z : Shown). z.channel.state) (world_ms (at n d) y.0 y.1).shown ∙ state_is)
+            ap₂ (λ (r : Role) (c : ChannelState). may_accept r c) (ap (λ (z : Shown). z.role) (world_ms (at n d) y.0 y.1).shown ∙ role_is) (ap (λ (z : Shown). z.channel.state) (world_ms (at n d) y.0 y.1).shown ∙ state_is)
             ∙ noted_accepts d (w (at n d)).role _ parts notes of noted in
             let c = some_there (slot_at Dce d (bs1 n)).caller (lines_answered ps bs1 ms (at n d) y.0 lines_kept y.1 may) in
             record {
@@ -597,7 +597,7 @@ module _ (routes : RouteMap) (n : ℕ) (what : Happening) (ls : List SwitchLine)
                 let y = some_there (shown_at (layers_of ms) (at n d)) there in
                 lines_connected ps bs1 ms (at n d) y.0 lines_kept y.1
                 (ap (λ (z : Shown). in_transfer z.channel.state) (world_ms (at n d) y.0 y.1).shown
-                ∙ (ap (λ (c : CallState). in_transfer c) state_is ∙ ap (λ (y : Step). in_transfer y.channel.state) is_))
+                ∙ (ap (λ (c : ChannelState). in_transfer c) state_is ∙ ap (λ (y : Step). in_transfer y.channel.state) is_))
 
         by_outcome : (j : Joined) → joined_at ls (at n d) ≡ Some j → Outcome d (w (at n d)).role (w (at n d)).channel (st (shown_of (w (at n d)))) → Walked (And AreCalls R) (heed_all_steps routes n notes ms) ms bs1 cs (heed_all routes n notes ms)
         by_outcome j at_j (ends cause diagnostic reason rest f) = one_over d (w (at n d)).role _ of cause diagnostic reason rest (notes_are ∙ f) there comes

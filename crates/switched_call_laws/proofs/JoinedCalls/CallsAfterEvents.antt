@@ -56,7 +56,7 @@ use Rattle.switched_call_laws.proofs.SwitchRecords.Cells.{touches_closed, here_o
 use Rattle.switched_call_laws.proofs.SwitchRecords.Relaying.{joins_relay}
 use Rattle.switched_call_laws.proofs.SwitchRecords.Resting.{event_rests}
 use Rattle.switched_call_laws.specs.JoinedCalls.Calls.{present_at, Stands, HasEnded, StandsOrEnded}
-use Rattle.switched_call_laws.specs.JoinedCalls.Law.{join_of_call, calls_in, BeginCalls, FrameCalls, TimerCalls, RelinkCalls, ElapseCalls, RestartCalls, OutCalls, HasRelayed, RelayedCalls, NewJoinsLaw, CallsLaw}
+use Rattle.switched_call_laws.specs.JoinedCalls.JoinLaws.{join_of_call, calls_in, BeginCalls, FrameCalls, TimerCalls, RelinkCalls, ElapseCalls, RestartCalls, OutCalls, HasRelayed, RelayedCalls, NewJoinsLaw, CallsLaw}
 use Rattle.switched_call_laws.proofs.JoinedCalls.Steady.{shape, ended_same}
 use Rattle.switched_call_laws.proofs.JoinedCalls.Closing.{SameEpochs, epochs_itself, relayed_same, closed_none, RestsWith, records_at}
 use Rattle.switched_call_laws.proofs.JoinedCalls.EndedCalls.{IsClosing}

@@ -9,8 +9,8 @@ use Rattle.epochs.specs.Epoch.{SentEpoch, TakenEpoch}
 use Rattle.data_transfer.specs.Packets.{Note}
 use Rattle.data_transfer.specs.Packets.{CallParts}
 use Rattle.record_laws.proofs.Books.Writing.{closed_else, slot_changed}
-use Rattle.packet_channel.specs.Channel.{CallState, Channel, Refusal, refused_if, may_clear, had_call}
-use Rattle.packet_channel.specs.Channel.CallState.{Ready, OwnWaiting, FarWaiting, Transfer, Collision, OwnClear}
+use Rattle.packet_channel.specs.Channel.{ChannelState, Channel, Refusal, refused_if, may_clear, had_call}
+use Rattle.packet_channel.specs.Channel.ChannelState.{Ready, OwnWaiting, FarWaiting, Transfer, Collision, OwnClear}
 use Rattle.packet_channel.specs.Channel.Request.{Clearing}
 use Rattle.packet_layer.specs.Layer.{Layer, channel_of, request_refusal, refusal_at}
 use Rattle.call_records.specs.Records.{RecordValue, with_closed, changed_at}
@@ -129,7 +129,7 @@ clear_touches cause diagnostic q ls bs = record {
 
 -- ---- a channel that has a present record has a call, which can be cleared
 
-clears_call : (s : CallState) → had_call s ≡ true → may_clear s ≡ true
+clears_call : (s : ChannelState) → had_call s ≡ true → may_clear s ≡ true
 clears_call Ready e = e
 clears_call OwnWaiting e = refl
 clears_call FarWaiting e = refl

@@ -15,7 +15,7 @@ use Rattle.data_transfer.specs.declared.flow.Flow.{Flow}
 use Rattle.data_transfer.specs.Packets.{CallParts, Note, Packet, Received}
 use Rattle.data_transfer.specs.Packets.Note.{Incoming, Connected, Closed, WasReset, InterruptConfirmed, Covered}
 use Rattle.data_transfer.specs.Octets.{heard}
-use Rattle.packet_channel.specs.Channel.{CallState, Channel, Request, may_accept, in_transfer, requested}
+use Rattle.packet_channel.specs.Channel.{ChannelState, Channel, Request, may_accept, in_transfer, requested}
 use Rattle.packet_channel.specs.Channel.Request.{Accept, Clearing, Resetting, Sending, Interrupting, Stopping, Taking, Releasing, Confirming}
 use Rattle.packet_layer.specs.Layer.{Layer, Timer, channel_of, channel_given, next_packet, unread}
 use Rattle.packet_layer.specs.Events.{timer_named}
@@ -30,15 +30,15 @@ use Rattle.record_laws.specs.Words.{IsIn}
 use Rattle.record_laws.proofs.Books.Basics.{get_last}
 use Rattle.record_laws.proofs.Books.BookHolds.{calls_hold, callers_recorded}
 use Rattle.record_laws.proofs.Books.Answered.{are_answered}
-use Rattle.packet_laws.specs.Line as layers
-use Rattle.packet_laws.specs.Line.{Event as layer_event}
-use Rattle.packet_laws.specs.Line.Happening.{Here, There}
+use Rattle.packet_laws.specs.LayerLine as layers
+use Rattle.packet_laws.specs.LayerLine.{Event as layer_event}
+use Rattle.packet_laws.specs.LayerLine.Happening.{Here, There}
 use Rattle.packet_laws.proofs.Line.Moves.{found_same, placed_same, timer_same}
 use Rattle.packet_laws.proofs.Line.Offering.{next_same}
 use Rattle.packet_laws.proofs.Line.Arriving.{packet_same}
 use Rattle.record_laws.specs.Books.Told.Move.{Happens, Edits}
 use Rattle.record_laws.proofs.Books.Writing.{slot_here}
-use Rattle.node_laws.specs.Lines.Line.{Line}
+use Rattle.node_laws.specs.Lines.NodeLine.{Line}
 use Rattle.switched_call_laws.specs.SwitchRecords.Kept.{Setting, Kept, beginning, end_at}
 use Rattle.switched_call_laws.specs.SwitchRecords.Turned.{sight}
 use Rattle.switch_joins.specs.declared.channels.SwitchChannel.{SwitchChannel}
@@ -300,7 +300,7 @@ incoming_written d parts b h =
       far = refl;
     }
 
-pub last_written : (d : ℕ) (role : Role) (s : CallState) (parts : CallParts) (ns : List Note) (b : Book) → AreOf d role s ns → IsNoted ns d parts → HasSlot d b → WrittenIn d parts (all_told Dce ns b)
+pub last_written : (d : ℕ) (role : Role) (s : ChannelState) (parts : CallParts) (ns : List Note) (b : Book) → AreOf d role s ns → IsNoted ns d parts → HasSlot d b → WrittenIn d parts (all_told Dce ns b)
 last_written d role s parts [] b of n h = absurd n
 last_written d role s parts (Incoming c ps ∷ ns) b of n h =
     subst (λ (more : List Note). WrittenIn d parts (all_told Dce (Incoming c ps ∷ more) b)) (sym of.1.1)
@@ -318,7 +318,7 @@ last_written d role s parts (Covered c k ∷ ns) b of n h =
     last_written d role s parts ns (told Dce (Covered c k) b) of.1 (elim n [ inl e ↦ absurd cc | inr more ↦ more ]) (has_slot b (told Dce (Covered c k) b) d c (changes Dce c (with_covered k) b) h)
 
 -- one that can come in can be accepted
-pub noted_accepts : (d : ℕ) (role : Role) (s : CallState) (parts : CallParts) (ns : List Note) → AreOf d role s ns → IsNoted ns d parts → may_accept role s ≡ true
+pub noted_accepts : (d : ℕ) (role : Role) (s : ChannelState) (parts : CallParts) (ns : List Note) → AreOf d role s ns → IsNoted ns d parts → may_accept role s ≡ true
 noted_accepts d role s parts [] of n = absurd n
 noted_accepts d role s parts (Incoming c ps ∷ ns) of n = of.1.0
 noted_accepts d role s parts (Connected c ∷ ns) of n = noted_accepts d role s parts ns of.1 (elim n [ inl e ↦ absurd cc | inr more ↦ more ])

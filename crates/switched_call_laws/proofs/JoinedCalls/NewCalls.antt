@@ -10,7 +10,7 @@ use Rattle.lapb.specs.Machine as link
 use Rattle.data_transfer.specs.Packets.{CallParts, Note, Reason}
 use Rattle.data_transfer.specs.Packets.Note.{Incoming, Connected, Closed, WasReset, InterruptConfirmed, Covered}
 use Rattle.data_transfer.specs.Packets.Reason.{LinkLost, LocalFault}
-use Rattle.packet_channel.specs.Channel.{CallState, Channel, had_call, clear_error}
+use Rattle.packet_channel.specs.Channel.{ChannelState, Channel, had_call, clear_error}
 use Rattle.packet_channel.specs.Channel.Request.{Clearing}
 use Rattle.packet_layer.specs.Layer.{Layer, Timer, channel_of, closing_notes, on_found, runs, unread}
 use Rattle.packet_layer.specs.Layer as machine
@@ -50,7 +50,7 @@ use Rattle.switch_laws.proofs.Turning.{EndEffect, got_changed, changed_none}
 use Rattle.switched_call_laws.specs.SwitchRecords.Opened.{HasSlot}
 use Rattle.switched_call_laws.specs.SwitchRecords.Written.{Books, HaveRecords}
 use Rattle.switched_call_laws.specs.JoinedCalls.Calls.{JoinedCall, present_at, books_by, books_by_all, calls_of_all}
-use Rattle.switched_call_laws.specs.JoinedCalls.Law.{join_of_call}
+use Rattle.switched_call_laws.specs.JoinedCalls.JoinLaws.{join_of_call}
 use Rattle.switched_call_laws.proofs.JoinedCalls.Steady.{Paired, Mutual, switch_mutual, mutual_both, every_map, IsPlain, plains_steady, rounds_steady, steady_then, steadies_none}
 use Rattle.switched_call_laws.proofs.JoinedCalls.Walking.{Beside, beside_step, leads_then, leads_itself}
 use Rattle.switched_call_laws.proofs.JoinedCalls.Following.{WrittenIn, last_written}
@@ -163,7 +163,7 @@ untold routes note n c d ns ls bs e none h =
     subst (λ (o : Option Joined). map join_of_call (calls_of_all (told_steps o note (at n d) ls ++ heed_all_steps routes n ns (told_of o note (at n d) ls)) ls bs) ≡ joins_of_notes routes n ns (told_of o note (at n d) ls))
     (sym (ap (λ (k : ℕ). joined_at ls (at n k)) e ∙ none)) h
 
-alone_as_said : (routes : RouteMap) (n c : ℕ) (role : Role) (s : CallState) (ns : List Note) (ls : List SwitchLine) (bs : Books) → AreOf c role s ns → Unjoined n c ns ls bs → JoinsAsSaid routes n ns ls bs
+alone_as_said : (routes : RouteMap) (n c : ℕ) (role : Role) (s : ChannelState) (ns : List Note) (ls : List SwitchLine) (bs : Books) → AreOf c role s ns → Unjoined n c ns ls bs → JoinsAsSaid routes n ns ls bs
 alone_as_said routes n c role s [] ls bs of i = refl
 alone_as_said routes n c role s (Incoming d parts ∷ ns) ls bs of i =
     let v = answer routes ls n parts in
@@ -223,7 +223,7 @@ module _ (routes : RouteMap) (n : ℕ) (what : Happening) (ls : List SwitchLine)
   joined : (y : SwitchChannel) → joined_at ms y ≡ joined_at ls y
   joined y = joined_ms routes n what ls w bs i h line got eff y
 
-  one_as_said : (d : ℕ) (role : Role) (s : CallState) (ch : Channel) → channel_of l d ≡ Some ch → AreOf d role s notes
+  one_as_said : (d : ℕ) (role : Role) (s : ChannelState) (ch : Channel) → channel_of l d ≡ Some ch → AreOf d role s notes
       → ((had_call (w (at n d)).channel.state ≡ true) → JoinsAsSaid routes n notes ms bs1 ⊎ ((cause diagnostic : ℕ) × (reason : Reason) × (rest : List Note) × (notes ≡ Closed d cause diagnostic reason ∷ rest)))
       → JoinsAsSaid routes n notes ms bs1
   one_as_said d role s ch found of outcome = by_joined (joined_at ls (at n d)) refl

@@ -16,7 +16,7 @@ use Rattle.switched_call_laws.specs.SwitchRecords.Rests.{Rests}
 use Rattle.switched_call_laws.specs.SwitchRecords.Tied.{IsTied}
 use Rattle.switched_call_laws.proofs.SwitchRecords.Partner.{writes_keep, partner_leaves}
 use Rattle.switched_call_laws.proofs.SwitchRecords.Resting.{event_rests, act_writes_are}
-use Rattle.switched_call_laws.specs.JoinedCalls.Law.{IsWritten, WritesLaw, OutsideLaw}
+use Rattle.switched_call_laws.specs.JoinedCalls.JoinLaws.{IsWritten, WritesLaw, OutsideLaw}
 use Rattle.switched_call_laws.proofs.JoinedCalls.Steady.{switch_mutual, calls_same}
 
 -- ---- what an event of the switch writes

@@ -5,7 +5,7 @@ use Rattle.std.proofs.lemmas.Option.{none-some}
 use Rattle.link_timers.specs.declared.timers.TimerId.{TimerId}
 use Rattle.packet_end.specs.PacketEnd.{begun, due, runs_at}
 use Rattle.node_laws.proofs.LineRecords.DueEnds.{IsFewer, due-expires}
-use Rattle.line_nodes.specs.Node.{Host}
+use Rattle.user_nodes.specs.Node.{Host}
 use Rattle.node_laws.specs.Quiet.{IsQuiet}
 use Rattle.switch_lines.specs.Lines.{SwitchLine}
 use Rattle.switch_lines.specs.Switch.{on_expiry, on_timer, timer_runs, with_end, without_notes, quieted, due_on}

@@ -6,7 +6,7 @@ use Rattle.link_timers.specs.declared.timers.TimerId.{TimerId}
 use Rattle.lapb.specs.Machine.{Octets}
 use Rattle.packet_end.specs.PacketEnd.{PacketEnd, elapsed, without_first_frame}
 use Rattle.address_routes.specs.Routes.{RouteMap}
-use Rattle.line_nodes.specs.Node.{Host}
+use Rattle.user_nodes.specs.Node.{Host}
 use Rattle.node_laws.specs.Quiet.{IsQuiet}
 use Rattle.node_laws.proofs.QuietTurns.{quiet-elapses}
 use Rattle.switch_lines.specs.Lines.{SwitchLine, changed}

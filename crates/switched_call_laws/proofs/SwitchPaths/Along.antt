@@ -20,7 +20,7 @@ use Rattle.record_laws.proofs.CallPaths.Hopping.{way_of}
 use Rattle.record_laws.proofs.CallPaths.Ending.{ends_seen, placed_along}
 use Rattle.switched_call_laws.specs.SwitchPaths.Sight.{Switches, OwnLines, Lines}
 use Rattle.switched_call_laws.specs.SwitchPaths.Network.{PlacedCall, GoesOnAccepted, IsNetwork}
-use Rattle.switched_call_laws.specs.SwitchPaths.Law.{PlacedLaw}
+use Rattle.switched_call_laws.specs.SwitchPaths.SwitchPathLaws.{PlacedLaw}
 
 length_last : (hops : List HopValue) (hop : HopValue) → length (hops ++ hop ∷ []) ≡ suc (length hops)
 length_last [] hop = refl

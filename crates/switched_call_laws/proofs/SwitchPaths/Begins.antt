@@ -11,7 +11,7 @@ use Rattle.record_laws.proofs.CallPaths.Forwarding.{made_handed_on}
 use Rattle.record_laws.proofs.CallPaths.Hopping.{made_paths}
 use Rattle.switched_call_laws.specs.SwitchPaths.Sight.{OwnLines}
 use Rattle.switched_call_laws.specs.SwitchPaths.Network.{AllSeen}
-use Rattle.switched_call_laws.specs.SwitchPaths.Law.{BeginLaw, SwitchPathLaw}
+use Rattle.switched_call_laws.specs.SwitchPaths.SwitchPathLaws.{BeginLaw, SwitchPathLaw}
 use Rattle.switched_call_laws.proofs.SwitchPaths.SwitchEvents.{frame_after, timer_after, relink_after, elapse_after, out_after, restart_after}
 use Rattle.switched_call_laws.proofs.SwitchPaths.Users.{user_after}
 use Rattle.switched_call_laws.proofs.SwitchPaths.Changing.{change_after}

@@ -9,13 +9,13 @@ use Rattle.lapb.specs.Machine.{Octets}
 use Rattle.packet_end.specs.PacketEnd.{PacketEnd}
 use Rattle.call_records.specs.Book.{Book}
 use Rattle.record_laws.proofs.Books.Basics.{get_there}
-use Rattle.node_laws.specs.Lines.Line.{Line}
+use Rattle.node_laws.specs.Lines.NodeLine.{Line}
 use Rattle.node_laws.specs.LineRecords.Kept.{Kept, end_at}
 use Rattle.switch_lines.specs.Lines.{SwitchLine}
 use Rattle.switched_call_laws.specs.SwitchRecords.Turned.{sight}
 use Rattle.switched_call_laws.specs.SwitchRecords.Kept.{Partner, line_of_ends, line_with, KeptWith}
 use Rattle.switched_call_laws.specs.JoinedCalls.Calls.{JoinedCall}
-use Rattle.switched_call_laws.specs.JoinedCalls.Law.{IsWritten, HappenedOutside}
+use Rattle.switched_call_laws.specs.JoinedCalls.JoinLaws.{IsWritten, HappenedOutside}
 use Rattle.switched_call_laws.proofs.SwitchRecords.Turned.{sight_back}
 use Rattle.switched_call_laws.proofs.JoinedCalls.Outside.{happened_outside}
 use Rattle.switched_call_laws.specs.SwitchPaths.Sight.{Switched, Lines, Standing, role_at, found_line, network_line, standing_with, partner_of, IsInSight, StaysInSight, seen_book, seen_then}

@@ -6,7 +6,7 @@ use Rattle.std.proofs.lemmas.Option.{none-some}
 use Rattle.std.proofs.lemmas.Bool.{eqb-true, and_parts}
 use Rattle.switch_joins.specs.Joins.{Joined, flat, nth_joined, gathers_nothing}
 use Rattle.switch_lines.specs.Lines.{SwitchLine, joined_on}
-use Rattle.switched_call_laws.specs.SwitchPaths.Law.{GathersNothing}
+use Rattle.switched_call_laws.specs.SwitchPaths.SwitchPathLaws.{GathersNothing}
 
 slot_none : (js : List (Option Joined)) (i : ℕ) (j : Joined) → list_all gathers_nothing js ≡ true → flat (slice_get js i) ≡ Some j → length j.kept.gathered.octets ≡ 0
 slot_none [] i j all e = absurd (none-some j e)

@@ -20,7 +20,7 @@ use Rattle.record_laws.specs.CallPaths.World.{Origin, Join, World, Plan}
 use Rattle.record_laws.specs.CallPaths.Seen.{IsJoined, JoinIsSeen}
 use Rattle.switched_call_laws.specs.SwitchPaths.Sight.{Switched, Switches, OwnLines, Lines, role_at, network_line, StaysInSight}
 use Rattle.switched_call_laws.specs.SwitchPaths.Network.{PlacedCall, of_switch, lines_of, HasNumber, JoinIs, IsAtSwitch, IsNetwork}
-use Rattle.switched_call_laws.specs.SwitchPaths.Law.{IsOfUsers}
+use Rattle.switched_call_laws.specs.SwitchPaths.SwitchPathLaws.{IsOfUsers}
 use Rattle.switched_call_laws.proofs.SwitchPaths.Listing.{join_found, every_own}
 use Rattle.switched_call_laws.proofs.SwitchPaths.Seeing.{IsSeen, seen_with, line_seen}
 use Rattle.switched_call_laws.proofs.SwitchPaths.Elsewhere.{kept_in_sight}

@@ -3,7 +3,7 @@ use Rattle.std.specs.Prelude.{◌≡◌, ℕ, zero, suc, ◌<◌, ◌⊎◌, Lis
 use Rattle.std.proofs.Common.{inl, inr, sym, subst, arith}
 use Rattle.call_records.specs.Book.{Book}
 use Rattle.record_laws.proofs.Books.Basics.{number_is}
-use Rattle.node_laws.specs.Lines.Line.{Line}
+use Rattle.node_laws.specs.Lines.NodeLine.{Line}
 use Rattle.node_laws.specs.LineRecords.Kept.{Setting, Kept}
 use Rattle.record_laws.specs.CallPaths.World.{Origin}
 use Rattle.record_laws.specs.CallPaths.Lines.{AreRecorded, BookCallsHold}

@@ -15,12 +15,12 @@ use Rattle.switched_call_laws.specs.SwitchRecords.Turned.{sight}
 use Rattle.switched_call_laws.specs.SwitchRecords.Kept.{Partner}
 use Rattle.switched_call_laws.specs.SwitchRecords.Tied.{IsTied}
 use Rattle.switched_call_laws.specs.JoinedCalls.Calls.{JoinedCall, AreCalls}
-use Rattle.switched_call_laws.specs.JoinedCalls.Law.{IsWritten}
+use Rattle.switched_call_laws.specs.JoinedCalls.JoinLaws.{IsWritten}
 use Rattle.switched_call_laws.proofs.SwitchRecords.Turned.{sight_back, written_across}
 use Rattle.record_laws.specs.CallPaths.World.{Origin, World, Plan}
 use Rattle.switched_call_laws.specs.SwitchPaths.Sight.{Switched, Switches, OwnLines, Lines, Standing, role_at, network_line, standing_with, StaysInSight, seen_then, all_after}
 use Rattle.switched_call_laws.specs.SwitchPaths.Network.{IsOther, IsPlanned, IsAtSwitch, PlacedCall, placed_at, of_switch, AllSeen, IsNetwork}
-use Rattle.switched_call_laws.specs.SwitchPaths.Law.{NetworkAfter, NetworkStays}
+use Rattle.switched_call_laws.specs.SwitchPaths.SwitchPathLaws.{NetworkAfter, NetworkStays}
 use Rattle.switched_call_laws.proofs.SwitchPaths.LinesByMoves.{IsOwn, own_or_other}
 use Rattle.switched_call_laws.proofs.SwitchPaths.Listing.{AreApart, AreAmong, BooksStay, if_same, if_else, own_behind, other_behind}
 use Rattle.switched_call_laws.proofs.SwitchPaths.Elsewhere.{other_end, kept_in_sight, LineStays, elsewhere}

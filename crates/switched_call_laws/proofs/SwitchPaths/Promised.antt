@@ -7,7 +7,7 @@ use Rattle.call_records.specs.Records.{RecordValue}
 use Rattle.call_records.specs.Book.{Book}
 use Rattle.record_laws.specs.Words.{sent_by}
 use Rattle.record_laws.specs.Registers.Seen.{renumbered}
-use Rattle.switched_call_laws.specs.JoinedCalls.Law.{HasRelayed}
+use Rattle.switched_call_laws.specs.JoinedCalls.JoinLaws.{HasRelayed}
 use Rattle.switched_call_laws.proofs.JoinedCalls.CallsAfterEvents.{calls_hold}
 use Rattle.record_laws.specs.CallPaths.World.{Origin, Join, World, Plan, calling_on}
 use Rattle.record_laws.specs.CallPaths.Seen.{IsJoined}
@@ -18,7 +18,7 @@ use Rattle.record_laws.proofs.CallPaths.Forwarding.{relayed_joins}
 use Rattle.record_laws.proofs.CallPaths.Promising.{promised}
 use Rattle.switched_call_laws.specs.SwitchPaths.Sight.{Switched, Switches, OwnLines, Lines, network_line}
 use Rattle.switched_call_laws.specs.SwitchPaths.Network.{PlacedCall, of_switch, HasNumber, IsInJoin, IsNetwork}
-use Rattle.switched_call_laws.specs.SwitchPaths.Law.{AddressLaw, IsOfUsers, IsKept, PromiseLaw}
+use Rattle.switched_call_laws.specs.SwitchPaths.SwitchPathLaws.{AddressLaw, IsOfUsers, IsKept, PromiseLaw}
 use Rattle.switched_call_laws.proofs.SwitchPaths.LinesByMoves.{kept_calls}
 use Rattle.switched_call_laws.proofs.SwitchPaths.Listing.{join_at}
 use Rattle.switched_call_laws.proofs.SwitchPaths.Joined.{in_both, its_switch, of_its, kept_line, users_or_switch, line_of_origin}

@@ -6,20 +6,20 @@ use Rattle.link_timers.specs.declared.role.Role.{Role}
 use Rattle.link_timers.specs.declared.role.Role.TheVariants.{Dte, Dce}
 use Rattle.link_timers.specs.Role.{other_of}
 use Rattle.data_transfer.proofs.Windows.{window_below}
-use Rattle.packet_channel.specs.Channel.{CallState, Channel, had_call, in_transfer, waits_for_call}
-use Rattle.packet_channel.specs.Channel.CallState.{Transfer}
+use Rattle.packet_channel.specs.Channel.{ChannelState, Channel, had_call, in_transfer, waits_for_call}
+use Rattle.packet_channel.specs.Channel.ChannelState.{Transfer}
 use Rattle.packet_layer.specs.Layer.{Layer, channel_of}
 use Rattle.epochs.specs.Item.{Item, all_items}
 use Rattle.epochs.specs.Epoch.{sent_epoch, taken_epoch}
 use Rattle.packet_laws.specs.History.{Epoch}
 use Rattle.packet_end.specs.PacketEnd.{PacketEnd}
-use Rattle.node_laws.specs.Lines.Line.{Line}
-use Rattle.node_laws.specs.Lines.Rest.{AreAtRest}
+use Rattle.node_laws.specs.Lines.NodeLine.{Line}
+use Rattle.node_laws.specs.Lines.LineRest.{AreAtRest}
 use Rattle.call_records.specs.Records.{RecordValue, PairValue}
 use Rattle.call_records.specs.Book.{Book, Slot, slot_at}
 use Rattle.call_records.specs.Register.{book_at}
 use Rattle.record_laws.specs.Books.Headline.{IsPaired}
-use Rattle.record_laws.specs.Books.Rest.{NothingMissing}
+use Rattle.record_laws.specs.Books.BookRest.{NothingMissing}
 use Rattle.record_laws.proofs.Books.Answered.{are_answered}
 use Rattle.record_laws.proofs.Books.Basics.{get_there}
 use Rattle.record_laws.specs.Registers.Seen.{positions, renumbered}
@@ -49,11 +49,11 @@ use Rattle.switched_call_laws.specs.SwitchRecords.Tied.{Histories}
 use Rattle.switched_call_laws.specs.JoinedCalls.Calls.{JoinedCall, StandsOrEnded, Stands}
 use Rattle.record_laws.specs.CallPaths.World.{Origin, Join, World, Plan}
 use Rattle.record_laws.specs.CallPaths.Seen.{CameFrom}
-use Rattle.record_laws.specs.CallPaths.Rest.{HasHandedAll, HaveHandedAll}
+use Rattle.record_laws.specs.CallPaths.PathRest.{HasHandedAll, HaveHandedAll}
 use Rattle.record_laws.proofs.CallPaths.Resting.{rest_paths}
 use Rattle.switched_call_laws.specs.SwitchPaths.Sight.{Switched, Switches, OwnLines, Lines, role_at, network_line, StaysInSight}
 use Rattle.switched_call_laws.specs.SwitchPaths.Network.{PlacedCall, of_switch, lines_of, HasNumber, JoinIs, IsNetwork}
-use Rattle.switched_call_laws.specs.SwitchPaths.Law.{IsOfUsers, GathersNothing, RestsAt, SwitchesRest, RestLaw}
+use Rattle.switched_call_laws.specs.SwitchPaths.SwitchPathLaws.{IsOfUsers, GathersNothing, RestsAt, SwitchesRest, RestLaw}
 use Rattle.switched_call_laws.proofs.SwitchPaths.Seeing.{line_there, own_trace, line_seen}
 use Rattle.switched_call_laws.proofs.SwitchPaths.Elsewhere.{end_in_sight}
 use Rattle.switched_call_laws.proofs.SwitchPaths.Joined.{in_sight, its_switch, kept_line, of_its, users_or_switch}
@@ -67,9 +67,9 @@ record AreConnected (g h : Leg) : Type 0 where
   pub onward : sent_epoch (sent_of h.epoch) ≡ taken_epoch (taken_of g.epoch)
   pub backward : sent_epoch (sent_of g.epoch) ≡ taken_epoch (taken_of h.epoch)
 
-no_wait : (role : Role) (state : CallState) → waits_for_call role state ≡ true → state ≡ Transfer → ⊥
-no_wait Dte state h e = true≢false (sym h ∙ ap (λ (x : CallState). waits_for_call Dte x) e)
-no_wait Dce state h e = true≢false (sym h ∙ ap (λ (x : CallState). waits_for_call Dce x) e)
+no_wait : (role : Role) (state : ChannelState) → waits_for_call role state ≡ true → state ≡ Transfer → ⊥
+no_wait Dte state h e = true≢false (sym h ∙ ap (λ (x : ChannelState). waits_for_call Dte x) e)
+no_wait Dce state h e = true≢false (sym h ∙ ap (λ (x : ChannelState). waits_for_call Dce x) e)
 
 -- the epochs that carry each other are one where nothing is gathered
 no_items : (g : Gathered) → length g.octets ≡ 0 → items_gathered g ≡ []

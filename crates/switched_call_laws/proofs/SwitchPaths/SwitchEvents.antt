@@ -29,14 +29,14 @@ use Rattle.switched_call_laws.specs.SwitchRecords.Tied.{IsTied, happened, restar
 use Rattle.switched_call_laws.proofs.SwitchRecords.Calming.{addresses}
 use Rattle.switched_call_laws.proofs.SwitchRecords.Tying.{tied_holds}
 use Rattle.switched_call_laws.specs.JoinedCalls.Calls.{JoinedCall, AreCalls}
-use Rattle.switched_call_laws.specs.JoinedCalls.Law.{calls_in, IsWritten}
+use Rattle.switched_call_laws.specs.JoinedCalls.JoinLaws.{calls_in, IsWritten}
 use Rattle.switched_call_laws.proofs.JoinedCalls.Outside.{nothing_written, writes_hold}
 use Rattle.switched_call_laws.proofs.JoinedCalls.Following.{addresses_led}
 use Rattle.switched_call_laws.proofs.JoinedCalls.CallsAfterEvents.{calls_after, calls_hold}
 use Rattle.record_laws.specs.CallPaths.World.{Origin, World, Plan}
 use Rattle.switched_call_laws.specs.SwitchPaths.Sight.{Switched, Switches, OwnLines, Lines, role_at}
 use Rattle.switched_call_laws.specs.SwitchPaths.Network.{IsPlanned, PlacedCall, placed_at, of_switch, all_handed, AllSeen, IsNetwork}
-use Rattle.switched_call_laws.specs.SwitchPaths.Law.{NetworkAfter, NetworkStays, FrameLaw, TimerLaw, RelinkLaw, ElapseLaw, OutLaw, RestartLaw}
+use Rattle.switched_call_laws.specs.SwitchPaths.SwitchPathLaws.{NetworkAfter, NetworkStays, FrameLaw, TimerLaw, RelinkLaw, ElapseLaw, OutLaw, RestartLaw}
 use Rattle.switched_call_laws.proofs.SwitchPaths.Listing.{others_same}
 use Rattle.switched_call_laws.proofs.SwitchPaths.Seeing.{IsSeen, seen_of, seen_with, Moved, moved_then, StandsAt, Beyond, silently, stays_quietly, stays_sending, stays_accepting, stays_joining, switch_writes, same_books}
 use Rattle.switched_call_laws.proofs.SwitchPaths.PartnerMoves.{switch_moves, switch_stays}

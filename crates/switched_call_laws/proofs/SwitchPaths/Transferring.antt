@@ -7,12 +7,12 @@ use Rattle.link_timers.specs.declared.role.Role.{Role}
 use Rattle.link_timers.specs.declared.role.Role.TheVariants.{Dte, Dce}
 use Rattle.link_timers.specs.Role.{other_of}
 use Rattle.data_transfer.proofs.Windows.{window_below}
-use Rattle.packet_channel.specs.Channel.{CallState, Channel, had_call}
-use Rattle.packet_channel.specs.Channel.CallState.{Ready, OwnWaiting, FarWaiting, Transfer, Collision, OwnClear}
+use Rattle.packet_channel.specs.Channel.{ChannelState, Channel, had_call}
+use Rattle.packet_channel.specs.Channel.ChannelState.{Ready, OwnWaiting, FarWaiting, Transfer, Collision, OwnClear}
 use Rattle.packet_layer.specs.Layer.{Layer, channel_of}
-use Rattle.packet_laws.specs.Law.{Together}
-use Rattle.node_laws.specs.Lines.Line.{Line}
-use Rattle.node_laws.specs.Lines.Rest.{AreAtRest}
+use Rattle.packet_laws.specs.LayerLineLaw.{Together}
+use Rattle.node_laws.specs.Lines.NodeLine.{Line}
+use Rattle.node_laws.specs.Lines.LineRest.{AreAtRest}
 use Rattle.node_laws.proofs.Lines.Resting.{nothing_missing}
 use Rattle.call_records.specs.Records.{RecordValue, PairValue}
 use Rattle.call_records.specs.Book.{Book, slot_at}
@@ -35,10 +35,10 @@ pub record BothInTransfer (b : Book) (l : Line) (pair : PairValue) : Type 0 wher
   pub caller_in_call : caller_channel.state ≡ Transfer
 
 -- in data transfer the other end is so too
-with_transfer : (a b : CallState) → Together a b → a ≡ Transfer → b ≡ Transfer
-with_transfer a b h e = on b (subst (λ (x : CallState). Together x b) e h)
+with_transfer : (a b : ChannelState) → Together a b → a ≡ Transfer → b ≡ Transfer
+with_transfer a b h e = on b (subst (λ (x : ChannelState). Together x b) e h)
   where
-    on : (y : CallState) → Together Transfer y → y ≡ Transfer
+    on : (y : ChannelState) → Together Transfer y → y ≡ Transfer
     on Transfer h = refl
     on Ready h = absurd h
     on OwnWaiting h = absurd h
@@ -46,10 +46,10 @@ with_transfer a b h e = on b (subst (λ (x : CallState). Together x b) e h)
     on Collision h = absurd h
     on OwnClear h = absurd h
 
-with_transfer_too : (a b : CallState) → Together a b → b ≡ Transfer → a ≡ Transfer
-with_transfer_too a b h e = on a (subst (λ (x : CallState). Together a x) e h)
+with_transfer_too : (a b : ChannelState) → Together a b → b ≡ Transfer → a ≡ Transfer
+with_transfer_too a b h e = on a (subst (λ (x : ChannelState). Together a x) e h)
   where
-    on : (y : CallState) → Together y Transfer → y ≡ Transfer
+    on : (y : ChannelState) → Together y Transfer → y ≡ Transfer
     on Transfer h = refl
     on Ready h = absurd h
     on OwnWaiting h = absurd h

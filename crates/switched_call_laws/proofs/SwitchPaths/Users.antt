@@ -14,7 +14,7 @@ use Rattle.switched_call_laws.proofs.SwitchRecords.Turned.{sight_back, partner_s
 use Rattle.record_laws.specs.CallPaths.World.{Origin, World, Plan}
 use Rattle.switched_call_laws.specs.SwitchPaths.Sight.{Switched, Switches, OwnLines, Lines, Standing, role_at, network_line, StaysInSight, seen_then}
 use Rattle.switched_call_laws.specs.SwitchPaths.Network.{IsPlanned, PlacedCall, of_switch, IsNetwork}
-use Rattle.switched_call_laws.specs.SwitchPaths.Law.{with_line, StaysKept, UserLaw}
+use Rattle.switched_call_laws.specs.SwitchPaths.SwitchPathLaws.{with_line, StaysKept, UserLaw}
 use Rattle.switched_call_laws.proofs.SwitchPaths.Listing.{if_same, if_else}
 use Rattle.switched_call_laws.proofs.SwitchPaths.Seeing.{written_by_user}
 use Rattle.switched_call_laws.proofs.SwitchPaths.Elsewhere.{kept_in_sight, LineStays, elsewhere}

@@ -12,7 +12,7 @@ use Rattle.switch_laws.proofs.Lists.{get_changed, not_equal}
 use Rattle.switch_laws.proofs.Layers.{LineAgrees, world_acts}
 use Rattle.switched_call_laws.specs.SwitchRecords.Records.{AreRecords}
 use Rattle.switched_call_laws.specs.SwitchRecords.Written.{Books, writes_at, books_after, HaveRecords}
-use Rattle.switched_call_laws.specs.SwitchRecords.Law.{ActsLaw}
+use Rattle.switched_call_laws.specs.SwitchRecords.SwitchRecordLaws.{ActsLaw}
 use Rattle.switched_call_laws.proofs.SwitchRecords.Lines.{line_writes}
 use Rattle.switch_joins.proofs.Apart.{decided}
 use Rattle.switch_lines.proofs.Places.{get_unchanged}

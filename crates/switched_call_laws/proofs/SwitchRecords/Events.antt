@@ -18,7 +18,7 @@ use Rattle.packet_layer.specs.Layer.{Layer, Timer, next_packet, link_down}
 use Rattle.packet_layer.specs.Events.{timer_named}
 use Rattle.packet_laws.specs.Readable.{Every}
 use Rattle.packet_end.specs.PacketEnd.{PacketEnd, restarted, runs_at, with_next}
-use Rattle.node_laws.specs.Lines.Line as acts
+use Rattle.node_laws.specs.Lines.NodeLine as acts
 use Rattle.node_laws.specs.LineRecords.Kept.{Setting, Kept}
 use Rattle.node_laws.proofs.LineRecords.LineLaw.{restart_kept}
 use Rattle.call_records.specs.Book.{Book, all_told}

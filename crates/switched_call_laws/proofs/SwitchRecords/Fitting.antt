@@ -24,8 +24,8 @@ use Rattle.data_transfer.specs.Packets.Received.{Whole, Unknown, Faulty}
 use Rattle.data_transfer.specs.Packets.Note.{Incoming, Connected, Closed, WasReset, InterruptConfirmed, Covered}
 use Rattle.data_transfer.specs.Packets.Reason.{LinkLost, FarRestart, LocalFault}
 use Rattle.data_transfer.specs.Traffic.{Heard, hears as hears_in}
-use Rattle.packet_channel.specs.Channel.{CallState, Channel, Step, received_in, unreadable_in, clear_error, after_heard, in_flow_ready, in_own_reset}
-use Rattle.packet_channel.specs.Channel.CallState.{Ready, OwnWaiting, FarWaiting, Transfer, Collision, OwnClear}
+use Rattle.packet_channel.specs.Channel.{ChannelState, Channel, Step, received_in, unreadable_in, clear_error, after_heard, in_flow_ready, in_own_reset}
+use Rattle.packet_channel.specs.Channel.ChannelState.{Ready, OwnWaiting, FarWaiting, Transfer, Collision, OwnClear}
 use Rattle.packet_layer.specs.Layer.{Layer, Phase, Timer, channel_of, closing_notes, had_call, on_found, on_channel, on_received, restart_packet, unread, runs, expired as layer_expired}
 use Rattle.packet_layer.specs.Layer.Phase.{NoSession, OwnRestart, PacketReady}
 use Rattle.packet_layer.specs.Layer.Timer.{RestartTimer, CallTimer, ResetTimer, ClearTimer}
@@ -149,7 +149,7 @@ reset_carries role c ch (Interrupt octets) = tt
 reset_carries role c ch InterruptConfirmation = tt
 reset_carries role c ch _ = tt
 
-received_carries_in : (s : CallState) (role : Role) (flow : Flow) (c : ℕ) (ch : Channel) (p : Body) → CarriesCall p → NotesCarry (received_in s role flow c ch p).notes
+received_carries_in : (s : ChannelState) (role : Role) (flow : Flow) (c : ℕ) (ch : Channel) (p : Body) → CarriesCall p → NotesCarry (received_in s role flow c ch p).notes
 received_carries_in Ready role flow c ch (Call parts) i = (i, tt)
 received_carries_in Ready role flow c ch p i = tt
 received_carries_in OwnWaiting role flow c ch Accepted i = tt
@@ -167,7 +167,7 @@ received_carries_in OwnClear role flow c ch (Clear cause diagnostic) i = tt
 received_carries_in OwnClear role flow c ch ClearConfirmation i = tt
 received_carries_in OwnClear role flow c ch p i = tt
 
-unreadable_carries : (s : CallState) (role : Role) (c : ℕ) (unknown : Bool) (ch : Channel) → NotesCarry (unreadable_in s role c unknown ch).notes
+unreadable_carries : (s : ChannelState) (role : Role) (c : ℕ) (unknown : Bool) (ch : Channel) → NotesCarry (unreadable_in s role c unknown ch).notes
 unreadable_carries Ready role c unknown ch = tt
 unreadable_carries OwnClear role c unknown ch = tt
 unreadable_carries Transfer role c unknown ch = by_cond (λ (st : Step). NotesCarry st.notes) ch.resetting _ _ (λ e. tt) (λ e. tt)

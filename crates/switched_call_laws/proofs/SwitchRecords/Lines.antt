@@ -8,7 +8,7 @@ use Rattle.packet_codec.specs.Diagnostic.{no_information}
 use Rattle.data_transfer.specs.Packets.{CallParts, Body, Packet, Received, Reason}
 use Rattle.data_transfer.specs.Packets.Body.{Restart, RestartConfirmation}
 use Rattle.data_transfer.specs.Packets.Received.{Whole, Unknown, Faulty}
-use Rattle.packet_channel.specs.Channel.{CallState, Channel, Step, Request, Refusal, received, unreadable, clear_error, refusal, requested, carried_out, unless, owing, closed_channel, had_call, placing, is_free, is_ready}
+use Rattle.packet_channel.specs.Channel.{ChannelState, Channel, Step, Request, Refusal, received, unreadable, clear_error, refusal, requested, carried_out, unless, owing, closed_channel, had_call, placing, is_free, is_ready}
 use Rattle.packet_layer.specs.Layer.{Layer, Phase, Timer, nth_channel, channel_of, with_nth, on_found, on_channel, on_received, on_timer, expired, restart_packet, unread, runs, link_up, link_down, request, request_refusal, refusal_at, placed_on as layer_placed_on, channel_given, next_packet, closing_notes}
 use Rattle.packet_layer.specs.Layer.Phase.{NoSession, OwnRestart, PacketReady}
 use Rattle.packet_layer.specs.Layer.Timer.{RestartTimer, CallTimer, ResetTimer, ClearTimer}
@@ -333,7 +333,7 @@ line_gives x n l legs b i after r = record {
     gave_same (Some p) c g a = by_test (c == p.channel)
       where
         by_test : (v : Bool) → (had_call (if v then gave g else g).channel.state ≡ had_call g.channel.state) × (((if v then gave g else g).before ≡ g.before) × ((if v then gave g else g).epoch ≡ g.epoch))
-        by_test true = let k = leg_gave g a.leg.leg in (ap (λ (s : CallState). had_call s) k.state, (k.before, k.epoch))
+        by_test true = let k = leg_gave g a.leg.leg in (ap (λ (s : ChannelState). had_call s) k.state, (k.before, k.epoch))
         by_test false = (refl, (refl, refl))
 
     has : (c : ℕ) (now old : Option Channel) → channel_of (layer_after (Gives n) l) c ≡ now → channel_of l c ≡ old → Has x c (call_on (channel_of (layer_after (Gives n) l) c) (leg_after (Gives n) (Some l) c (legs c))) b

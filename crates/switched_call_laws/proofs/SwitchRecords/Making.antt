@@ -9,7 +9,7 @@ use Rattle.packet_layer.specs.Layer.{nth_channel}
 use Rattle.call_records.specs.Book.{Slot, side_of, slot_at, nth_slot, found_slot, free_slot, made_book}
 use Rattle.switch_laws.specs.Leg.{Leg}
 use Rattle.switched_call_laws.specs.SwitchRecords.Records.{Has, call_on}
-use Rattle.switched_call_laws.specs.SwitchRecords.Law.{MadeLaw}
+use Rattle.switched_call_laws.specs.SwitchRecords.SwitchRecordLaws.{MadeLaw}
 
 free_at : (n i : ℕ) → (found_slot (slice_get (replicate n free_slot) i)).present ≡ None
 free_at zero i = refl

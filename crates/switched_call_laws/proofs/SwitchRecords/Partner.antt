@@ -17,7 +17,7 @@ use Rattle.call_records.specs.Closing.{closes_if, closes_present, closed_from}
 use Rattle.call_records.specs.Writes.{Write, all_sent, let_go, written_by, all_written}
 use Rattle.switch_laws.specs.Leg.{Leg}
 use Rattle.switched_call_laws.specs.SwitchRecords.Records.{call_on, AreRecords}
-use Rattle.switched_call_laws.specs.SwitchRecords.Law.{PartnerLaw}
+use Rattle.switched_call_laws.specs.SwitchRecords.SwitchRecordLaws.{PartnerLaw}
 use Rattle.switched_call_laws.proofs.SwitchRecords.Cells.{Touches, touches_none, touches_closed, touches_new, touches_answered, changes, apart_after, has_elsewhere}
 use Rattle.switched_call_laws.proofs.SwitchRecords.Notes.{TouchesOne, told_touches}
 

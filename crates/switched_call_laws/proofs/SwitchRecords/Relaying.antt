@@ -8,8 +8,8 @@ use Rattle.epochs.specs.Item.{Item, DataPacket, all_items}
 use Rattle.epochs.specs.Epoch.{SentEpoch, TakenEpoch}
 use Rattle.epochs.specs.Confirmed.{Confirmed, Confirms, sent_confirmed, taken_confirmed}
 use Rattle.epochs.proofs.Confirms.{confirms_itself, confirms_in_turn}
-use Rattle.packet_channel.specs.Channel.{CallState, Channel, had_call, may_accept, waits_for_call}
-use Rattle.packet_channel.specs.Channel.CallState.{Ready, OwnWaiting, FarWaiting, Transfer, Collision, OwnClear}
+use Rattle.packet_channel.specs.Channel.{ChannelState, Channel, had_call, may_accept, waits_for_call}
+use Rattle.packet_channel.specs.Channel.ChannelState.{Ready, OwnWaiting, FarWaiting, Transfer, Collision, OwnClear}
 use Rattle.packet_layer.specs.Layer.{Layer, channel_of}
 use Rattle.packet_laws.specs.History.{Epoch, empty_epoch}
 use Rattle.call_records.specs.Records.{RecordValue}
@@ -29,7 +29,7 @@ use Rattle.switched_call_laws.specs.SwitchRecords.Records.{sent_of, taken_of, al
 use Rattle.switched_call_laws.specs.SwitchRecords.Written.{Books, HaveRecords}
 use Rattle.switched_call_laws.specs.SwitchRecords.Relayed.{RelayedTo, AreRelayed}
 use Rattle.switched_call_laws.specs.SwitchRecords.Joined.{IsPresent, JoinsRecords}
-use Rattle.switched_call_laws.specs.SwitchRecords.Law.{JoinsLaw}
+use Rattle.switched_call_laws.specs.SwitchRecords.SwitchRecordLaws.{JoinsLaw}
 use Rattle.switched_call_laws.proofs.SwitchRecords.Confirming.{carries_has, none_confirmed}
 
 -- ---- lists
@@ -79,7 +79,7 @@ pair_relayed g h j k a b ig ih (waiting p q w) i m =
     let s = ig.start z.0 in let t = ih.start z.1 in
     record { there = start_relayed g h a b s t i m; back = start_relayed h g b a t s m i }
 
-acceptable : (role : Role) (s : CallState) → may_accept role s ≡ true → had_call s ≡ true
+acceptable : (role : Role) (s : ChannelState) → may_accept role s ≡ true → had_call s ≡ true
 acceptable role FarWaiting e = refl
 acceptable Dce Collision e = refl
 acceptable Dte Collision e = refl
@@ -90,7 +90,7 @@ acceptable Dce Ready e = absurd (true≢false (sym e))
 acceptable Dte OwnClear e = absurd (true≢false (sym e))
 acceptable Dce OwnClear e = absurd (true≢false (sym e))
 
-waiting_call : (role : Role) (s : CallState) → waits_for_call role s ≡ true → had_call s ≡ true
+waiting_call : (role : Role) (s : ChannelState) → waits_for_call role s ≡ true → had_call s ≡ true
 waiting_call role OwnWaiting e = refl
 waiting_call Dte Collision e = refl
 waiting_call Dce Collision e = refl
@@ -106,7 +106,7 @@ waits_call true g h w = (acceptable g.role g.channel.state w.can_accept, waiting
 waits_call false g h w = (waiting_call g.role g.channel.state w.waits, acceptable h.role h.channel.state w.can_accept)
 
 pair_call : (g h : Leg) (j k : Joined) → IsPair g h j k → (had_call g.channel.state ≡ true) × (had_call h.channel.state ≡ true)
-pair_call g h j k (connected c) = (ap (λ (s : CallState). had_call s) c.there.holds.near_call, ap (λ (s : CallState). had_call s) c.there.holds.far_call)
+pair_call g h j k (connected c) = (ap (λ (s : ChannelState). had_call s) c.there.holds.near_call, ap (λ (s : ChannelState). had_call s) c.there.holds.far_call)
 pair_call g h j k (waiting p q w) = waits_call j.came_in g h w
 
 -- the record of a channel that has a call

@@ -15,7 +15,7 @@ use Rattle.switch_laws.specs.Joined.{notes_made}
 use Rattle.call_records.specs.Writes.{Write, written_by, all_written}
 use Rattle.switched_call_laws.specs.SwitchRecords.Written.{asked_writes, may_release_on, request_writes, writes, writes_at, books_after}
 use Rattle.switched_call_laws.specs.SwitchRecords.Rests.{Rests}
-use Rattle.switched_call_laws.specs.SwitchRecords.Law.{RestLaw, RestsLaw, WritesLaw}
+use Rattle.switched_call_laws.specs.SwitchRecords.SwitchRecordLaws.{RestLaw, RestsLaw, WritesLaw}
 use Rattle.switched_call_laws.proofs.SwitchRecords.Cells.{Touches, got_below, here_or_not}
 use Rattle.switched_call_laws.proofs.SwitchRecords.Notes.{told_touches}
 use Rattle.switched_call_laws.proofs.SwitchRecords.Partner.{carried_touches, placed_touches, writes_keep}

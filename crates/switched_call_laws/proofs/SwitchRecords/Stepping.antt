@@ -13,13 +13,13 @@ use Rattle.packet_channel.specs.Channel.Request.{Accept, Clearing, Resetting, Se
 use Rattle.packet_layer.specs.Layer.{Layer, channel_of, channel_given, nth_channel, with_nth, request, on_found, request_refusal, front_at, front_on, after_step}
 use Rattle.packet_laws.specs.Readable.{CanBePlaced}
 use Rattle.packet_end.specs.PacketEnd.{PacketEnd, begun, settled, elapsed, all_offered, asked, called, received}
-use Rattle.node_laws.specs.Lines.Line as acts
-use Rattle.node_laws.specs.Lines.Line.{Line}
+use Rattle.node_laws.specs.Lines.NodeLine as acts
+use Rattle.node_laws.specs.Lines.NodeLine.{Line}
 use Rattle.call_records.specs.Book.{Book, all_told}
 use Rattle.call_records.specs.Carried.{carried, unless_refused, placed_on}
 use Rattle.call_records.specs.Writes.{Write}
 use Rattle.node_laws.specs.LineRecords.Kept.{Setting, Kept, end_at}
-use Rattle.node_laws.specs.LineRecords.Clauses.{requested_at, MayTell, IsSilent, Tells}
+use Rattle.node_laws.specs.LineRecords.LineRecordClauses.{requested_at, MayTell, IsSilent, Tells}
 use Rattle.node_laws.proofs.LineRecords.LineLaw.{tells_kept, silent_kept, call_kept, request_kept, like_kept}
 use Rattle.node_laws.proofs.LineRecords.Opening.{read_kept}
 use Rattle.switch_lines.specs.Lines.{SwitchLine, changed}

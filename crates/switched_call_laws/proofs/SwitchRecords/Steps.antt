@@ -12,8 +12,8 @@ use Rattle.data_transfer.specs.Packets.Note.{Covered}
 use Rattle.data_transfer.specs.Traffic.{Traffic, Taken, Heard, hears as hears_in, front, may_release}
 use Rattle.data_transfer.specs.Traffic.Taken.{TakenInterrupt, TakenPacket}
 use Rattle.data_transfer.specs.Traffic.Heard.{Keeps, Confirms, Wrong}
-use Rattle.packet_channel.specs.Channel.{CallState, Step, Request, Refusal, received, unreadable, clear_error, refusal, refused_if, had_call, may_accept, in_transfer, after_heard}
-use Rattle.packet_channel.specs.Channel.CallState.{Ready, OwnWaiting, FarWaiting, Transfer, Collision, OwnClear}
+use Rattle.packet_channel.specs.Channel.{ChannelState, Step, Request, Refusal, received, unreadable, clear_error, refusal, refused_if, had_call, may_accept, in_transfer, after_heard}
+use Rattle.packet_channel.specs.Channel.ChannelState.{Ready, OwnWaiting, FarWaiting, Transfer, Collision, OwnClear}
 use Rattle.packet_channel.specs.Channel.Request.{Accept, Clearing, Resetting, Sending, Interrupting, Stopping, Taking, Releasing, Confirming}
 use Rattle.packet_laws.specs.History.{Epoch, empty_epoch, logged_heard, with_taken as epoch_with_taken}
 use Rattle.packet_laws.specs.Counts.{NamesCounts, NamesAfter}
@@ -206,7 +206,7 @@ own_clear rs x c (Clear cause diagnostic) b g i r = nothing_written x c b None r
 own_clear rs x c ClearConfirmation b g i r = nothing_written x c b None r
 own_clear rs x c p b g i r = nothing_written x c b None r
 
-comes_in : (s : CallState) (rs : Bool) (x : Role) (c : ℕ) (p : Body) (b : Book) (g : Leg) → IsSlot x c b → Comes x c p b (leg_in s rs g)
+comes_in : (s : ChannelState) (rs : Bool) (x : Role) (c : ℕ) (p : Body) (b : Book) (g : Leg) → IsSlot x c b → Comes x c p b (leg_in s rs g)
 comes_in Ready rs x c p b g is i r = ready rs x c p b g is i r
 comes_in OwnWaiting rs x c p b g is i r = own_waiting g.role rs x c p b g is i r
 comes_in FarWaiting rs x c p b g is i r = far_waiting rs x c p b g i r
@@ -223,7 +223,7 @@ comes_written x c p b g is i r = comes_in g.channel.state g.channel.resetting x 
 abbrev CannotRead : Role → ℕ → Bool → Book → Leg → Type 0
 CannotRead x c unknown b g = Before x c g b → Tells x c (unreadable g.role c unknown g.channel) g.epoch g b
 
-cannot_read_in : (s : CallState) (rs : Bool) (x : Role) (c : ℕ) (unknown : Bool) (b : Book) (g : Leg) → CannotRead x c unknown b (leg_in s rs g)
+cannot_read_in : (s : ChannelState) (rs : Bool) (x : Role) (c : ℕ) (unknown : Bool) (b : Book) (g : Leg) → CannotRead x c unknown b (leg_in s rs g)
 cannot_read_in Ready rs x c unknown b g r = nothing_written x c b None r
 cannot_read_in OwnClear rs x c unknown b g r = nothing_written x c b None r
 cannot_read_in Transfer true x c unknown b g r = closed_written x c b
@@ -241,7 +241,7 @@ cleared_written x c diagnostic b g = closed_written x c b
 abbrev pub Asked : Role → ℕ → Request → Book → Leg → Type 0
 Asked x c q b g = Writes x c b (unless_refused (refusal g.role g.flow g.channel q) (request_writes x c q (Some g.channel) b) b) (leg_if (had_call (asked q g).channel.state) (asked q g))
 
-call_there : (s : CallState) → in_transfer s ≡ true → had_call s ≡ true
+call_there : (s : ChannelState) → in_transfer s ≡ true → had_call s ≡ true
 call_there Transfer e = refl
 call_there Ready e = absurd (true≢false (sym e))
 call_there OwnWaiting e = absurd (true≢false (sym e))
@@ -249,7 +249,7 @@ call_there FarWaiting e = absurd (true≢false (sym e))
 call_there Collision e = absurd (true≢false (sym e))
 call_there OwnClear e = absurd (true≢false (sym e))
 
-acceptable : (role : Role) (s : CallState) → may_accept role s ≡ true → had_call s ≡ true
+acceptable : (role : Role) (s : ChannelState) → may_accept role s ≡ true → had_call s ≡ true
 acceptable role FarWaiting e = refl
 acceptable Dce Collision e = refl
 acceptable Dte Collision e = refl

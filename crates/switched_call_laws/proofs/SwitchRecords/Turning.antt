@@ -10,7 +10,7 @@ use Rattle.switch_laws.specs.Joined.{IsSwitch, Becomes}
 use Rattle.switch_laws.proofs.Finishing.{turns}
 use Rattle.switched_call_laws.specs.SwitchRecords.Records.{AreRecords}
 use Rattle.switched_call_laws.specs.SwitchRecords.Written.{Books, books_after_all, HaveRecords, restart_writes, restarted_books}
-use Rattle.switched_call_laws.specs.SwitchRecords.Law.{Goes, FrameLaw, TimerLaw, RelinkLaw, ElapseLaw, RestartLaw}
+use Rattle.switched_call_laws.specs.SwitchRecords.SwitchRecordLaws.{Goes, FrameLaw, TimerLaw, RelinkLaw, ElapseLaw, RestartLaw}
 use Rattle.switched_call_laws.proofs.SwitchRecords.Lines.{line_closes}
 use Rattle.switched_call_laws.proofs.SwitchRecords.Acts.{acts_write}
 

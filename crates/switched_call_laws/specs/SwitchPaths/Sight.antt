@@ -7,7 +7,7 @@ use Rattle.link_timers.specs.declared.role.Role.TheVariants.{Dte, Dce}
 use Rattle.link_timers.specs.Role.{other_of}
 use Rattle.lapb.specs.Machine.{Octets}
 use Rattle.call_records.specs.Book.{Book}
-use Rattle.node_laws.specs.Lines.Line.{Line}
+use Rattle.node_laws.specs.Lines.NodeLine.{Line}
 use Rattle.node_laws.specs.LineRecords.Kept.{Setting, end_at}
 use Rattle.packet_end.specs.PacketEnd.{PacketEnd}
 use Rattle.switch_lines.specs.Lines.{SwitchLine}

@@ -3,7 +3,7 @@ use Rattle.std.specs.Prelude.{◌≡◌, ℕ, ◌==◌, if◌then◌else◌, Boo
 use Rattle.link_timers.specs.declared.role.Role.{Role}
 use Rattle.link_timers.specs.declared.role.Role.TheVariants.{Dte, Dce}
 use Rattle.link_timers.specs.declared.timers.TimerId.{TimerId}
-use Rattle.lapb.specs.Line.{chosen}
+use Rattle.lapb.specs.LinkLine.{chosen}
 use Rattle.line_end.specs.End.{without_frames}
 use Rattle.packet_codec.specs.Address.{MayBeDigits}
 use Rattle.packet_codec.specs.Digits.{digits_or_none}
@@ -11,7 +11,7 @@ use Rattle.lapb.specs.Machine.{Octets}
 use Rattle.packet_laws.specs.Readable.{CanBePlaced, Every, AreOctets}
 use Rattle.packet_end.specs.PacketEnd.{PacketEnd}
 use Rattle.call_records.specs.Book.{Book}
-use Rattle.node_laws.specs.Lines.Line.{Line, Restarts, other_after}
+use Rattle.node_laws.specs.Lines.NodeLine.{Line, Restarts, other_after}
 pub use Rattle.node_laws.specs.LineRecords.Kept.{Setting, Kept, beginning, end_at}
 use Rattle.switch_lines.specs.Lines.{SwitchLine, changed}
 use Rattle.switch_lines.specs.Switch.{Switch, on_frame, on_expiry, relink, elapse, restart, finished, acted, all_begun}

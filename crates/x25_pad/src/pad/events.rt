@@ -4,15 +4,15 @@ ghost use Rattle.packet_channel.specs.NoteView.{note_of};
 ghost use Rattle.packet_end.specs.PacketEnd as end;
 ghost use Rattle.packet_end.specs.Sending.{EndsWhole, ending_frames};
 ghost use Rattle.packet_layer.specs.LayerTimers.{TimersAgree};
-ghost use Rattle.pad_ports.specs.Line as line;
+ghost use Rattle.pad_ports.specs.PadLine as line;
 ghost use Rattle.x25_pad.specs.Pad as spec;
 
 use crate::pad::Pad;
 use packet_layer::LayerNote;
-use pad_ports::{CallNote, ChannelNote, EARLY_NOTES, MOST_NOTES, Port, TOLD_NOTES};
+use pad_ports::{ChannelNote, EARLY_NOTES, MOST_NOTES, Port, PortNote, TOLD_NOTES};
 
 impl Pad {
-    // Begins an event: what was not taken of the last one is dropped.
+    /// Begins an event: what was not taken of the last one is dropped.
     pub(super) fn begin(&mut self)
         ensures { self.new ≡ spec.begun self.old }
     {
@@ -21,23 +21,12 @@ impl Pad {
         self.noted_at.clear();
     }
 
-    // The notes that have no terminal yet are of this one, or of none.
-    pub(super) fn name_notes(&mut self, terminal: Option<u8>)
-        requires { length self.old.noted_at ≤ length self.old.line.notes }
-        ensures pad { self.new ≡ spec.named terminal self.old }
-        ensures named { spec.IsEachNamed self.new }
-    {
-        self.noted_at.fill(terminal, self.line.notes.len());
-    }
-
-    // Ends an event that came from the line: the terminals learn what became of their calls, and a call that came in is
-    // answered.
+    /// Ends an event that came from the line: the terminals learn what became of their calls, and a call that came in is
+    /// answered.
     pub(super) fn end_line_event(&mut self)
         requires told { length self.old.line.end.notes ≤ TOLD_NOTES }
         requires empty { self.old.line.notes ≡ [] }
-        requires named { self.old.noted_at ≡ [] }
         ensures pad { self.new ≡ spec.line_event self.old }
-        ensures named { spec.IsEachNamed self.new }
         ensures frames { length self.old.line.end.line.frames ≤ 1 → self.new.line.end.line.frames
             ≡ self.old.line.end.line.frames ++ ending_frames (spec.heeded self.old).line.end }
         ensures nothing_kept_back { end.KeepsNothingBack self.new.line.end }
@@ -48,14 +37,13 @@ impl Pad {
         self.finish();
     }
 
-    // Ends an event: a relink where it is due, then all packets that may go, and the link sends what may go. Then the
-    // terminals learn of that, and may go on.
+    /// Ends an event: a relink where it is due, then all packets that may go, and the link sends what may go. Then the
+    /// terminals learn of that, and may go on.
+    #[inline(always)]
     pub(super) fn finish(&mut self)
         requires told { self.old.line.end.notes ≡ [] }
         requires room { length self.old.line.notes ≤ EARLY_NOTES }
-        requires named { spec.IsEachNamed self.old }
         ensures pad { self.new ≡ spec.ended self.old }
-        ensures named { spec.IsEachNamed self.new }
         ensures frames { EndsWhole self.old.line.end self.new.line.end }
         ensures nothing_kept_back { end.KeepsNothingBack self.new.line.end }
         ensures timers { TimersAgree self.new.line.end.layer self.new.line.end.timers }
@@ -65,15 +53,13 @@ impl Pad {
         self.settle();
     }
 
-    // Takes over what the packet layer told, if anything. The terminals learn what became of their calls; the last call
-    // that came in is the result.
+    /// Takes over what the packet layer told, if anything. The terminals learn what became of their calls; the last call
+    /// that came in is the result.
     #[tactic(auto, using(crate::proofs::Hearing::told_none))]
     fn hear(&mut self) -> Option<u8>
         requires room { length self.old.line.notes + length self.old.line.end.notes ≤ MOST_NOTES }
-        requires named { spec.IsEachNamed self.old }
         ensures pad { self.new ≡ spec.told self.old }
         ensures incoming { result ≡ line.last_incoming None self.old.line.end.notes }
-        ensures named { spec.IsEachNamed self.new }
     {
         if self.line.end.waiting_notes() == 0 {
             return None;
@@ -84,10 +70,8 @@ impl Pad {
     #[inline(never)]
     fn hear_notes(&mut self) -> Option<u8>
         requires room { length self.old.line.notes + length self.old.line.end.notes ≤ MOST_NOTES }
-        requires named { spec.IsEachNamed self.old }
         ensures pad { self.new ≡ spec.told self.old }
         ensures incoming { result ≡ line.last_incoming None self.old.line.end.notes }
-        ensures named { spec.IsEachNamed self.new }
     {
         let mut incoming = None;
         for _ in 0..self.line.end.waiting_notes() {
@@ -96,14 +80,12 @@ impl Pad {
         incoming
     }
 
-    // Takes over the first note of the packet layer, if there is one: it is of the terminal that has the call. The
-    // channel is that of the last call that came in.
+    /// Takes over the first note of the packet layer, if there is one: it is of the terminal that has the call. The
+    /// channel is that of the last call that came in.
     #[tactic(auto, using(crate::proofs::Hearing::told_first, crate::proofs::Hearing::last_first))]
     fn hear_note(&mut self, incoming: Option<u8>) -> Option<u8>
         requires room { length self.old.line.notes + length self.old.line.end.notes ≤ MOST_NOTES }
-        requires named { spec.IsEachNamed self.old }
         ensures pad { spec.told self.new ≡ spec.told self.old }
-        ensures named { spec.IsEachNamed self.new }
         ensures incoming { line.last_incoming result self.new.line.end.notes
             ≡ line.last_incoming incoming self.old.line.end.notes }
         ensures rest { self.new.line.end.notes ≡ drop 1 self.old.line.end.notes }
@@ -127,12 +109,10 @@ impl Pad {
         self.ports.iter().position(|port| port.is_free())
     }
 
-    // Accepts a call that came in, if one did, for the first terminal that is present and has no call, or else clears it.
+    /// Accepts a call that came in, if one did, for the first terminal that is present and has no call, or else clears it.
     fn answer(&mut self, incoming: Option<u8>)
         requires room { length self.old.line.notes < MOST_NOTES }
-        requires named { spec.IsEachNamed self.old }
         ensures pad { self.new ≡ spec.answered incoming self.old }
-        ensures named { spec.IsEachNamed self.new }
         ensures room { length self.new.line.notes ≤ length self.old.line.notes + 1 }
     {
         let Some(channel) = incoming else {
@@ -140,17 +120,18 @@ impl Pad {
         };
         let Some(number) = self.first_free() else {
             self.line.clear(channel);
-            self.name_notes(None);
+            self.noted_at.fill(None, self.line.notes.len());
             return;
         };
         self.line.accept(channel);
         if let Some(port) = self.ports.get_mut(number) {
             port.connect(channel);
         }
-        self.name_notes(Some(number as u8));
+        self.noted_at
+            .fill(Some(number as u8), self.line.notes.len());
     }
 
-    // The terminals may go on, and their idle timers run as they want them.
+    /// The terminals may go on, and their idle timers run as they want them.
     fn settle(&mut self)
         ensures { self.new ≡ spec.all_settled self.old }
     {
@@ -160,7 +141,7 @@ impl Pad {
     }
 }
 
-// The channel of the call that came in last, where this note is told after others.
+/// The channel of the call that came in last, where this note is told after others.
 fn last_call(before: Option<u8>, note: &LayerNote) -> Option<u8>
     ensures { result ≡ line.last_incoming before (note_of note.now ∷ []) }
 {
@@ -170,25 +151,25 @@ fn last_call(before: Option<u8>, note: &LayerNote) -> Option<u8>
     }
 }
 
-// The terminal whose call a note is of, if there is one, learns what became of it.
+/// The terminal whose call a note is of, if there is one, learns what became of it.
 #[tactic(auto, unfolding(crate::specs::Pad::all_heard))]
 fn tell(ports: &mut Vec<Port>, note: &LayerNote)
     ensures ports { ports.new.items ≡ spec.all_heard (line.learnt_of (note_of note.now)) ports.old.items }
     ensures count { length ports.new.items ≡ length ports.old.items }
 {
     match note {
-        LayerNote::Connected(channel) => learn(ports, CallNote::Connected(*channel)),
+        LayerNote::Connected(channel) => learn(ports, PortNote::Connected(*channel)),
         LayerNote::Closed { channel, cause, .. } => {
-            learn(ports, CallNote::Cleared(*channel, *cause));
+            learn(ports, PortNote::Cleared(*channel, *cause));
         }
-        LayerNote::Reset { channel, cause, .. } => learn(ports, CallNote::Reset(*channel, *cause)),
+        LayerNote::Reset { channel, cause, .. } => learn(ports, PortNote::Reset(*channel, *cause)),
         LayerNote::Incoming(_, _) | LayerNote::InterruptConfirmed(_) | LayerNote::Covered { .. } =>
             {}
     }
 }
 
-// The terminal whose call is on the channel, if there is one, learns what became of it.
-fn learn(ports: &mut Vec<Port>, note: CallNote)
+/// The terminal whose call is on the channel, if there is one, learns what became of it.
+fn learn(ports: &mut Vec<Port>, note: PortNote)
     ensures ports { ports.new.items ≡ spec.one_learnt ports.old.items note }
     ensures count { length ports.new.items ≡ length ports.old.items }
 {
@@ -200,7 +181,7 @@ fn learn(ports: &mut Vec<Port>, note: CallNote)
     }
 }
 
-// The terminal whose call is on the channel, if there is one.
+/// The terminal whose call is on the channel, if there is one.
 fn terminal_with(ports: &[Port], channel: u8) -> Option<u8>
     requires { length ports.now ≤ 16 }
     ensures { result ≡ spec.holder channel ports.now }
@@ -211,7 +192,7 @@ fn terminal_with(ports: &[Port], channel: u8) -> Option<u8>
     }
 }
 
-// The channel that a note is about.
+/// The channel that a note is about.
 fn about(note: &LayerNote) -> u8
     ensures { result ≡ line.about (note_of note.now) }
 {

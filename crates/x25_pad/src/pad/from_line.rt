@@ -17,7 +17,6 @@ impl Pad {
         ensures pad { self.new ≡ spec.after_frame self.old octets.now }
         ensures nothing_kept_back { end.KeepsNothingBack self.new.line.end }
         ensures frames { self.new.line.end.line.frames ≡ frames_on_frame self.old octets.now }
-        ensures named { spec.IsEachNamed self.new }
         ensures timers { TimersAgree self.new.line.end.layer self.new.line.end.timers }
     {
         self.begin();
@@ -30,7 +29,6 @@ impl Pad {
         ensures pad { self.new ≡ spec.after_relink self.old }
         ensures nothing_kept_back { end.KeepsNothingBack self.new.line.end }
         ensures frames { self.new.line.end.line.frames ≡ frames_on_relink self.old }
-        ensures named { spec.IsEachNamed self.new }
         ensures timers { TimersAgree self.new.line.end.layer self.new.line.end.timers }
     {
         self.begin();

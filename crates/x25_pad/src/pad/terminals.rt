@@ -15,7 +15,7 @@ use crate::answer::PadAnswer;
 use crate::pad::Pad;
 use arrayvec::ArrayVec;
 use link_timers::TimerId;
-use pad_ports::{EARLY_NOTES, MOST_TEXT, PadTaken};
+use pad_ports::{MOST_TEXT, PadTaken};
 
 impl Pad {
     /// Takes a key of a terminal (X.3 3; X.28 3.2).
@@ -29,7 +29,6 @@ impl Pad {
         ensures nothing_kept_back { end.KeepsNothingBack self.new.line.end }
         ensures frames { self.new.line.end.line.frames
             ≡ frames_at_terminal terminal (port.after_key octet) self.old }
-        ensures named { spec.IsEachNamed self.new }
         ensures timers { TimersAgree self.new.line.end.layer self.new.line.end.timers }
     {
         self.begin();
@@ -48,7 +47,6 @@ impl Pad {
         ensures answer { result ≡ spec.answer_of (spec.break_taken terminal self.old) }
         ensures nothing_kept_back { end.KeepsNothingBack self.new.line.end }
         ensures frames { self.new.line.end.line.frames ≡ frames_at_terminal terminal port.after_break self.old }
-        ensures named { spec.IsEachNamed self.new }
         ensures timers { TimersAgree self.new.line.end.layer self.new.line.end.timers }
     {
         self.begin();
@@ -65,7 +63,6 @@ impl Pad {
         ensures pad { self.new ≡ spec.terminal_event terminal port.after_leaving self.old }
         ensures nothing_kept_back { end.KeepsNothingBack self.new.line.end }
         ensures frames { self.new.line.end.line.frames ≡ frames_at_terminal terminal port.after_leaving self.old }
-        ensures named { spec.IsEachNamed self.new }
         ensures timers { TimersAgree self.new.line.end.layer self.new.line.end.timers }
     {
         self.begin();
@@ -80,7 +77,6 @@ impl Pad {
         ensures pad { self.new ≡ spec.terminal_event terminal port.after_arrival self.old }
         ensures nothing_kept_back { end.KeepsNothingBack self.new.line.end }
         ensures frames { self.new.line.end.line.frames ≡ frames_at_terminal terminal port.after_arrival self.old }
-        ensures named { spec.IsEachNamed self.new }
         ensures timers { TimersAgree self.new.line.end.layer self.new.line.end.timers }
     {
         self.begin();
@@ -88,64 +84,54 @@ impl Pad {
         self.finish();
     }
 
-    // What a key does at its terminal.
+    /// What a key does at its terminal.
     fn press(&mut self, terminal: u8, octet: u8) -> bool
         requires there { terminal < length self.old.ports }
-        requires room { length self.old.line.notes + 2 ≤ EARLY_NOTES }
-        requires named { self.old.noted_at ≡ [] }
+        requires empty { self.old.line.notes ≡ [] }
         ensures pad { self.new ≡ spec.at_port terminal (port.after_key octet) self.old }
         ensures taken { result ≡ spec.key_taken_now terminal octet self.old }
         ensures room { length self.new.line.notes ≤ length self.old.line.notes + 2 }
         ensures told { self.new.line.end.notes ≡ self.old.line.end.notes }
-        ensures named { spec.IsEachNamed self.new }
     {
         let taken = self.ports[usize::from(terminal)].press(octet, &mut self.line);
-        self.name_notes(Some(terminal));
+        self.noted_at.fill(Some(terminal), self.line.notes.len());
         taken
     }
 
-    // What a break does at its terminal.
+    /// What a break does at its terminal.
     fn break_in(&mut self, terminal: u8) -> bool
         requires there { terminal < length self.old.ports }
-        requires room { length self.old.line.notes + 2 ≤ EARLY_NOTES }
-        requires named { self.old.noted_at ≡ [] }
+        requires empty { self.old.line.notes ≡ [] }
         ensures pad { self.new ≡ spec.at_port terminal port.after_break self.old }
         ensures taken { result ≡ spec.break_taken_now terminal self.old }
         ensures room { length self.new.line.notes ≤ length self.old.line.notes + 2 }
         ensures told { self.new.line.end.notes ≡ self.old.line.end.notes }
-        ensures named { spec.IsEachNamed self.new }
     {
         let taken = self.ports[usize::from(terminal)].break_in(&mut self.line);
-        self.name_notes(Some(terminal));
+        self.noted_at.fill(Some(terminal), self.line.notes.len());
         taken
     }
 
-    // What leaving does at a terminal.
+    /// What leaving does at a terminal.
     fn leave(&mut self, terminal: u8)
         requires there { terminal < length self.old.ports }
-        requires room { length self.old.line.notes + 2 ≤ EARLY_NOTES }
-        requires named { self.old.noted_at ≡ [] }
+        requires empty { self.old.line.notes ≡ [] }
         ensures pad { self.new ≡ spec.at_port terminal port.after_leaving self.old }
         ensures room { length self.new.line.notes ≤ length self.old.line.notes + 2 }
         ensures told { self.new.line.end.notes ≡ self.old.line.end.notes }
-        ensures named { spec.IsEachNamed self.new }
     {
         self.ports[usize::from(terminal)].leave(&mut self.line);
-        self.name_notes(Some(terminal));
+        self.noted_at.fill(Some(terminal), self.line.notes.len());
     }
 
-    // What arriving does at a terminal.
+    /// What arriving does at a terminal.
     fn arrive(&mut self, terminal: u8)
-        requires there { terminal < length self.old.ports }
-        requires room { length self.old.line.notes + 2 ≤ EARLY_NOTES }
-        requires named { self.old.noted_at ≡ [] }
+        requires { terminal < length self.old.ports }
         ensures pad { self.new ≡ spec.at_port terminal port.after_arrival self.old }
-        ensures room { length self.new.line.notes ≤ length self.old.line.notes + 2 }
+        ensures room { length self.new.line.notes ≤ length self.old.line.notes }
         ensures told { self.new.line.end.notes ≡ self.old.line.end.notes }
-        ensures named { spec.IsEachNamed self.new }
     {
         self.ports[usize::from(terminal)].arrive();
-        self.name_notes(Some(terminal));
     }
 
     /// Takes the end of the idle time of a terminal (X.3 3.4). If its idle timer does not run, nothing happens.
@@ -159,7 +145,6 @@ impl Pad {
             end.KeepsNothingBack self.new.line.end }
         ensures frames { spec.runs_idle_timer terminal self.old ≡ true →
             self.new.line.end.line.frames ≡ frames_at_terminal terminal port.after_idle self.old }
-        ensures named { spec.runs_idle_timer terminal self.old ≡ true → spec.IsEachNamed self.new }
     {
         if !self.runs_idle_timer(terminal) {
             return PadAnswer::Taken;
@@ -170,7 +155,7 @@ impl Pad {
         PadAnswer::of(taken)
     }
 
-    // Whether the idle timer of a terminal runs.
+    /// Whether the idle timer of a terminal runs.
     fn runs_idle_timer(&self, terminal: u8) -> bool
         ensures { result ≡ spec.runs_idle_timer terminal self.now }
     {
@@ -180,19 +165,17 @@ impl Pad {
         }
     }
 
-    // What the end of an idle time does at its terminal.
+    /// What the end of an idle time does at its terminal.
     fn pause(&mut self, terminal: u8) -> bool
         requires there { terminal < length self.old.ports }
-        requires room { length self.old.line.notes + 2 ≤ EARLY_NOTES }
-        requires named { self.old.noted_at ≡ [] }
+        requires empty { self.old.line.notes ≡ [] }
         ensures pad { self.new ≡ spec.at_port terminal port.after_idle self.old }
         ensures taken { result ≡ spec.idle_taken_now terminal self.old }
         ensures room { length self.new.line.notes ≤ length self.old.line.notes + 2 }
         ensures told { self.new.line.end.notes ≡ self.old.line.end.notes }
-        ensures named { spec.IsEachNamed self.new }
     {
         let taken = self.ports[usize::from(terminal)].pause(&mut self.line);
-        self.name_notes(Some(terminal));
+        self.noted_at.fill(Some(terminal), self.line.notes.len());
         taken
     }
 
@@ -224,7 +207,6 @@ impl Pad {
         ensures text { out.new.items ≡ out.old.items ++ spec.print_text terminal self.old }
         ensures nothing_kept_back { end.KeepsNothingBack self.new.line.end }
         ensures frames { self.new.line.end.line.frames ≡ frames_at_terminal terminal port.after_print self.old }
-        ensures named { spec.IsEachNamed self.new }
         ensures timers { TimersAgree self.new.line.end.layer self.new.line.end.timers }
     {
         self.begin();
@@ -233,21 +215,19 @@ impl Pad {
         taken
     }
 
-    // What printing does at its terminal.
+    /// What printing does at its terminal.
     fn show<const N: usize>(&mut self, terminal: u8, out: &mut ArrayVec<u8, N>) -> Option<PadTaken>
         requires there { terminal < length self.old.ports }
-        requires room { length self.old.line.notes + 2 ≤ EARLY_NOTES }
-        requires named { self.old.noted_at ≡ [] }
+        requires empty { self.old.line.notes ≡ [] }
         requires out { array_vec_len out.old + MOST_TEXT ≤ N }
         ensures pad { self.new ≡ spec.at_port terminal port.after_print self.old }
         ensures taken { maybe_taken result ≡ spec.print_taken_now terminal self.old }
         ensures text { out.new.items ≡ out.old.items ++ spec.print_text_now terminal self.old }
         ensures room { length self.new.line.notes ≤ length self.old.line.notes + 2 }
         ensures told { self.new.line.end.notes ≡ self.old.line.end.notes }
-        ensures named { spec.IsEachNamed self.new }
     {
         let taken = self.ports[usize::from(terminal)].print(&mut self.line, out);
-        self.name_notes(Some(terminal));
+        self.noted_at.fill(Some(terminal), self.line.notes.len());
         taken
     }
 
@@ -258,7 +238,6 @@ impl Pad {
         ensures pad { self.new ≡ spec.after_timer self.old id }
         ensures nothing_kept_back { OnTrue result (end.KeepsNothingBack self.new.line.end) }
         ensures frames { OnTrue result (self.new.line.end.line.frames ≡ frames_on_timer self.old id) }
-        ensures named { OnTrue result (spec.IsEachNamed self.new) }
     {
         match id {
             TimerId::Idle(terminal) => {
@@ -272,14 +251,13 @@ impl Pad {
         }
     }
 
-    // An expiry of a timer of the line. All frames of the event wait then: those of the expiry and of its end.
+    /// An expiry of a timer of the line. All frames of the event wait then: those of the expiry and of its end.
     fn on_line_timer(&mut self, id: TimerId) -> bool
         ensures ran { result ≡ end.runs_at self.old.line.end id }
         ensures pad { self.new ≡ spec.after_expiry self.old id }
         ensures nothing_kept_back { OnTrue result (end.KeepsNothingBack self.new.line.end) }
         ensures frames { OnTrue result (self.new.line.end.line.frames ≡ expiry_frames id self.old.line.end
             ++ ending_frames (spec.heeded (spec.with_expiry self.old id)).line.end) }
-        ensures named { OnTrue result (spec.IsEachNamed self.new) }
     {
         if !self.line.end.is_running(id) {
             return false;
@@ -316,7 +294,7 @@ impl Pad {
         }
     }
 
-    // The first idle timer with no tick left.
+    /// The first idle timer with no tick left.
     fn idle_due(&self) -> Option<TimerId>
         ensures { result ≡ spec.idle_due (position (λ p. port.is_due p) self.now.ports) }
     {
@@ -326,7 +304,7 @@ impl Pad {
         }
     }
 
-    // The first terminal whose idle timer has no tick left: one of at most 16.
+    /// The first terminal whose idle timer has no tick left: one of at most 16.
     fn first_due(&self) -> Option<usize>
         ensures number { result ≡ position (λ p. port.is_due p) self.now.ports }
         ensures most { IfSome result (λ number. number < 16) }

@@ -3,7 +3,7 @@ use Rattle.link_timers.specs.declared.role.Role.TheVariants.{Dte, Dce}
 use Rattle.net_events.specs.Network.{NetLine}
 use Rattle.net_config.specs.NetPlan.{NewLine, NetPlan}
 use Rattle.line_sim.specs.Making.{HaveBegun}
-use Rattle.placed_nodes.specs.Making.{AreNew}
+use Rattle.net_node.specs.Making.{AreNew}
 use Rattle.net_events.proofs.Lists.{there, at_index}
 use Rattle.line_sim.proofs.LinesBegin.{none_begun, ends_of, one_more, first_frames, begun_so_far, line_more}
 use Rattle.line_sim.proofs.making.begin_lines.Goals as goal

@@ -1,7 +1,7 @@
 -- The lines so far have begun, with the nodes at their ends.
 use Rattle.std.proofs.Common.{◌≡◌, ◌+◌, length, vec_len}
 use Rattle.line_sim.specs.Making.{HaveBegun}
-use Rattle.placed_nodes.specs.Making.{AreNew}
+use Rattle.net_node.specs.Making.{AreNew}
 use Rattle.line_sim.proofs.making.begin_lines.Given as goal
 
 abbrev pub invariant-loop-line : goal.invariant-loop-line

@@ -1,10 +1,10 @@
 use Rattle.std.proofs.Common.{◌≡◌, ℕ, List, length, false, sym, ap, ◌∙◌, subst, arith}
 use Rattle.net_events.specs.AtSwitch.{switch_drained}
 use Rattle.net_events.specs.Network.{PlacedNode, PlacedSwitch, User, Switching}
-use Rattle.line_nodes.specs.NodeView.{node_of}
+use Rattle.user_nodes.specs.NodeView.{node_of}
 use Rattle.net_events.proofs.Users.{switch_is}
-use Rattle.placed_nodes.specs.NodeView.{kind_of}
-use Rattle.net_turns.specs.Switching.{CanPut, LinesPut}
+use Rattle.net_node.specs.NodeView.{kind_of}
+use Rattle.node_events.specs.Switching.{CanPut, LinesPut}
 use Rattle.switch_lines.specs.Switch.{Switch}
 use Rattle.line_sim.proofs.making.begin_switch.Goals as goal
 use Rattle.line_sim.proofs.making.begin_switch.Goals.{in-User, in-Switching+in_ok-puts-in-Switching}

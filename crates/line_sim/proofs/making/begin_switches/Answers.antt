@@ -3,7 +3,7 @@ use Rattle.std.specs.Prelude.{slice_get, vec_items}
 use Rattle.net_events.proofs.Users.{not_switch, switch_is}
 use Rattle.net_events.specs.Network.{PlacedSwitch, NetNode, NetLine, Switching}
 use Rattle.net_events.proofs.Lists.{there}
-use Rattle.placed_nodes.specs.Making.{waiting_switch}
+use Rattle.net_node.specs.Making.{waiting_switch}
 use Rattle.line_sim.specs.Making.{CanBegin, HaveBegun, HaveNodesBegun}
 use Rattle.line_sim.proofs.Made.{no_switch_yet, can_begin, IsNext, NextUser, NextSwitch, next_is, switch_more, user_more, is_made}
 use Rattle.line_sim.proofs.making.begin_switches.Goals as goal

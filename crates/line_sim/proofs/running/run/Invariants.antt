@@ -1,5 +1,5 @@
 use Rattle.std.proofs.Common.{take}
-use Rattle.network_laws.specs.Switched.Promise.{PromisesCalls, InnerPromise}
+use Rattle.network_laws.specs.Switched.InnerPromise.{PromisesCalls, InnerPromise}
 use Rattle.line_sim.specs.Courses.{PadsHaveRun}
 use Rattle.line_sim.specs.Runs.{HasRun}
 use Rattle.line_sim.proofs.running.run.Given as goal

@@ -1,5 +1,5 @@
 -- A line more is read, all are, or one spells no command.
-use Rattle.std.proofs.Common.{◌+◌, arith, refl, inr, map, string_bytes}
+use Rattle.std.proofs.Common.{◌+◌, arith, refl, inr, map}
 use Rattle.net_files.specs.Scripts.{lines_of}
 use Rattle.net_files.specs.Scripts.LinesForm.{none}
 use Rattle.net_files.specs.Values.{command_value}
@@ -18,7 +18,7 @@ loop-rest-preserved c =
     record {
       counted = omega (arith, counted, c.cut.ensures.shorter);
       read = rw c.cut.ensures.behind
-          (read_on (map string_bytes c.args.names.now) (lines_of c.args.text.now) c.loop-rest.number c.in-Some.lines.now
+          (read_on c.args.names.now (lines_of c.args.text.now) c.loop-rest.number c.in-Some.lines.now
           (map command_value c.loop-rest.commands) (map command_value c.add_command.new.commands)
           (rw c.in-Some.is at c.loop-rest.invariant.read) (rw c.cut.ensures.before at c.in-Ok.ensures));
     }
@@ -29,12 +29,12 @@ returns-in-Err-NotACommand c =
     inr (
       c.loop-rest.number + 1,
       refl,
-      bad_line (map string_bytes c.args.names.now) (lines_of c.args.text.now) c.loop-rest.number c.in-Some.lines.now
+      bad_line c.args.names.now (lines_of c.args.text.now) c.loop-rest.number c.in-Some.lines.now
           (map command_value c.loop-rest.commands) (rw c.in-Some.is at c.loop-rest.invariant.read)
           (refused c.in-Err-NotACommand.field-0-is),
     )
 
 pub returns : goal.returns
 returns c =
-    read_all (map string_bytes c.args.names.now) (lines_of c.args.text.now) c.loop-rest.number
+    read_all c.args.names.now (lines_of c.args.text.now) c.loop-rest.number
     (map command_value c.loop-rest.commands) (rw c.in_default.is at c.loop-rest.invariant.read)

@@ -1,4 +1,4 @@
-use Rattle.std.proofs.Common.{◌+◌, ◌≤◌, length, map, string_bytes}
+use Rattle.std.proofs.Common.{◌+◌, ◌≤◌, length, map}
 use Rattle.std.specs.Option.{option_map}
 use Rattle.net_files.specs.Cuts.{length_left}
 use Rattle.net_files.specs.Scripts.{lines_of}
@@ -10,7 +10,7 @@ use Rattle.net_files.proofs.script.read_lines.Given as goal
 abbrev pub invariant-loop-rest : goal.invariant-loop-rest
 invariant-loop-rest l = record {
   counted : l.number + length_left (option_map (λ s. s.now) l.rest) ≤ length l.text + 1;
-  read : IsReadTo (map string_bytes l.names) (lines_of l.text) l.number (option_map (λ s. s.now) l.rest)
+  read : IsReadTo l.names (lines_of l.text) l.number (option_map (λ s. s.now) l.rest)
       (map command_value l.commands);
 }
 

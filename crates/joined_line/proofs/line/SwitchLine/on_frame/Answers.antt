@@ -2,7 +2,7 @@ use Rattle.std.proofs.Common.{◌≡◌, List, [], ap, ap₂, ◌∙◌}
 use Rattle.data_transfer.specs.Packets.{Note}
 use Rattle.packet_end.specs.PacketEnd.{PacketEnd, received}
 use Rattle.packet_end.specs.Pooled.{PooledEnd}
-use Rattle.joined_line.specs.Line.{SwitchLine, with_end, quieted}
+use Rattle.joined_line.specs.SwitchLine.{SwitchLine, with_end, quieted}
 use Rattle.joined_line.specs.Pooled.{PooledLine}
 use Rattle.joined_line.proofs.Sharing.{end_served, end_balances}
 use Rattle.joined_line.proofs.line.SwitchLine.on_frame.Goals as goal

@@ -5,10 +5,10 @@ use Rattle.net_events.specs.NodeEvents.{Calls}
 use Rattle.net_events.specs.declared.event.Event.TheVariants.{Call}
 use Rattle.net_events.specs.declared.node_event.HostEvent.TheVariants as host_event
 use Rattle.net_events.specs.declared.node_event.UserEvent.TheVariants as user_event
-use Rattle.net_turns.specs.Outcomes.{event_fault}
+use Rattle.node_events.specs.Outcomes.{event_fault}
 use Rattle.net_nodes.specs.Faults.{at_host, refused}
 use Rattle.net_nodes.specs.Steps.{AtNode}
-use Rattle.net_turns.specs.Users.{user_fault}
+use Rattle.node_events.specs.Users.{user_fault}
 use Rattle.net_nodes.proofs.UserNodeEvents.{user_acted, can_act, call_fault_at}
 use Rattle.net_nodes.proofs.nodes.Nodes.call.Goals as goal
 

@@ -4,7 +4,7 @@ use Rattle.std.specs.Result.{result_and}
 use Rattle.call_records.specs.RegisterView.{register_of}
 use Rattle.net_events.specs.EventView.{user_event_of}
 use Rattle.net_events.specs.Network.{NetLine, place_at}
-use Rattle.net_turns.specs.Users.{IsRefusedWith, user_fault}
+use Rattle.node_events.specs.Users.{IsRefusedWith, user_fault}
 use Rattle.net_nodes.specs.Turns.{CanAct, HadTurn}
 use Rattle.net_events.proofs.Lists.{found, within}
 use Rattle.net_nodes.proofs.LineEndEvents.{can_serve_user, user_acts}

@@ -3,8 +3,8 @@ use Rattle.call_records.specs.RegisterView.{register_of}
 use Rattle.net_events.specs.AtSwitch.{HasOwnLine}
 use Rattle.net_events.specs.EventView.{switch_event_of}
 use Rattle.net_events.specs.Network.{PlacedSwitch, Switching}
-use Rattle.placed_nodes.specs.NodeView.{kind_of}
-use Rattle.net_turns.specs.Switching.{CanPut, SwitchServed}
+use Rattle.net_node.specs.NodeView.{kind_of}
+use Rattle.node_events.specs.Switching.{CanPut, SwitchServed}
 use Rattle.net_events.proofs.Users.{switch_is}
 use Rattle.net_nodes.proofs.nodes.switching.serve_switch_of.Goals as goal
 

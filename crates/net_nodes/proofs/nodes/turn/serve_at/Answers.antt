@@ -1,7 +1,7 @@
 use Rattle.std.proofs.Common.{Ok, ◌≡◌, ap, ◌∙◌, slice_get}
 use Rattle.std.specs.Result.{result_and}
 use Rattle.net_events.specs.Network.{User, place_at}
-use Rattle.line_nodes.specs.declared.attachment.Attachment.{Attachment}
+use Rattle.user_nodes.specs.declared.attachment.Attachment.{Attachment}
 use Rattle.net_events.proofs.Lists.{found, within}
 use Rattle.net_nodes.proofs.Serving.{quiet_of, line_served_at}
 use Rattle.net_nodes.proofs.nodes.turn.serve_at.Goals as goal

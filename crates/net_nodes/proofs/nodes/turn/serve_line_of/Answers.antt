@@ -1,9 +1,9 @@
 use Rattle.std.proofs.Common.{◌≡◌, ap, ◌∙◌, sym}
-use Rattle.line_nodes.specs.NodeView.{node_of}
+use Rattle.user_nodes.specs.NodeView.{node_of}
 use Rattle.net_events.specs.EventView.{line_event_of}
 use Rattle.net_events.specs.Network.{PlacedNode}
 use Rattle.net_events.proofs.Users.{user_is}
-use Rattle.placed_nodes.specs.NodeView.{kind_of}
+use Rattle.net_node.specs.NodeView.{kind_of}
 use Rattle.net_nodes.proofs.Serving.{line_served}
 use Rattle.net_nodes.proofs.nodes.turn.serve_line_of.Goals as goal
 

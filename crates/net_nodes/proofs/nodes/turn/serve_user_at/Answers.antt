@@ -3,8 +3,8 @@ use Rattle.std.specs.Result.{result_and}
 use Rattle.call_records.specs.RegisterView.{register_of}
 use Rattle.net_events.specs.EventView.{user_event_of}
 use Rattle.net_events.specs.Network.{User, place_at}
-use Rattle.line_nodes.specs.declared.attachment.Attachment.{Attachment}
-use Rattle.net_turns.specs.Users.{user_fault}
+use Rattle.user_nodes.specs.declared.attachment.Attachment.{Attachment}
+use Rattle.node_events.specs.Users.{user_fault}
 use Rattle.net_events.proofs.Lists.{found, within}
 use Rattle.net_nodes.proofs.Serving.{quiet_of, user_served_at}
 use Rattle.net_nodes.proofs.nodes.turn.serve_user_at.Goals as goal

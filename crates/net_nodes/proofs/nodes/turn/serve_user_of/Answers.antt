@@ -1,12 +1,12 @@
 use Rattle.std.proofs.Common.{Ok, ◌≡◌, ap, ◌∙◌, sym}
 use Rattle.std.specs.Result.{result_and}
 use Rattle.call_records.specs.RegisterView.{register_of}
-use Rattle.line_nodes.specs.NodeView.{node_of}
+use Rattle.user_nodes.specs.NodeView.{node_of}
 use Rattle.net_events.specs.EventView.{user_event_of}
 use Rattle.net_events.specs.Network.{PlacedNode}
 use Rattle.net_events.proofs.Users.{user_is}
-use Rattle.net_turns.specs.Users.{user_fault}
-use Rattle.placed_nodes.specs.NodeView.{kind_of}
+use Rattle.node_events.specs.Users.{user_fault}
+use Rattle.net_node.specs.NodeView.{kind_of}
 use Rattle.net_nodes.proofs.Serving.{user_served}
 use Rattle.net_nodes.proofs.nodes.turn.serve_user_of.Goals as goal
 

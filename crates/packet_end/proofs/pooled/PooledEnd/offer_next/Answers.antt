@@ -125,8 +125,8 @@ returns-then-not-next_packet-clause-end c =
 pub returns-clause-within : goal.returns-clause-within
 returns-clause-within c = grind (arith, common_steps)
 
-pub returns-then-not-has_room-clause-within : goal.returns-then-not-has_room-clause-within
-returns-then-not-has_room-clause-within c = grind (arith, common_steps)
+pub returns-then-not-can_offer-clause-within : goal.returns-then-not-can_offer-clause-within
+returns-then-not-can_offer-clause-within c = grind (arith, common_steps)
 
 pub returns-then-not-next_packet-clause-within : goal.returns-then-not-next_packet-clause-within
 returns-then-not-next_packet-clause-within c = grind (arith, common_steps)

@@ -6,7 +6,7 @@ use Rattle.packet_layer.specs.Layer.{serve}
 use Rattle.packet_layer.specs.LayerView.{layer_of}
 use Rattle.packet_layer.proofs.Placed.{placed, own_held, own_balance, few_after, fits_at}
 use Rattle.packet_layer.proofs.Served.{IsServed, spoke, quiet}
-use Rattle.packet_layer.proofs.Silence.{layer_spoke, layer_quieted}
+use Rattle.packet_layer.proofs.Silence.{layer_asked, layer_quieted}
 use Rattle.packet_layer.proofs.layer.Layer.serve_channel.Goals as goal
 
 -- the channel that is served
@@ -46,8 +46,9 @@ served_else c =
 
 pub invariant_of-self : goal.invariant_of-self
 invariant_of-self c =
-    layer_spoke c.self.inside c.args.place c.index_mut-channel.result.now c.next_packet.new.self (c.args.place + 1) c.self.invariant
-    (there_then c) (sym c.if-next_packet.ensures.said) (c.next_packet.ensures.fits c.self.inside.flow)
+    layer_asked c.self.inside c.keep_if.new.numbers c.args.place c.index_mut-channel.result.now c.next_packet.new.self
+    c.has_packet.result (c.args.place + 1) c.self.invariant c.keep_if.ensures (there_then c) c.has_packet.ensures
+    (c.next_packet.ensures.fits c.self.inside.flow)
 
 pub invariant_of-self-else-next_packet : goal.invariant_of-self-else-next_packet
 invariant_of-self-else-next_packet c =

@@ -1,6 +1,8 @@
 use Rattle.std.proofs.lemmas.Grind.{common_steps}
 use Rattle.std.proofs.Common.{◌≡◌, ◌∙◌, ap, sym, subst, Some, ◌<◌, length, arith}
-use Rattle.std.specs.Prelude.{slice_get}
+use Rattle.std.specs.Prelude.{slice_get, is_some}
+use Rattle.data_transfer.specs.declared.flow.Flow.{Flow}
+use Rattle.packet_channel.specs.Channel.{next_of}
 use Rattle.packet_codec.specs.View.{content_view}
 use Rattle.packet_layer.specs.Layer.{set_if}
 use Rattle.data_transfer.specs.Octets.{body_of}
@@ -9,7 +11,7 @@ use Rattle.packet_layer.specs.LayerView.{layer_of}
 use Rattle.packet_layer.proofs.Placed.{placed, own_held, own_room, own_balance, rw_fits, borrowed, plain_at, plain_set, few_after, few, own_few}
 use Rattle.packet_layer.specs.RestartView.{phase_of}
 use Rattle.packet_layer.proofs.Places.{packet_taken}
-use Rattle.packet_layer.proofs.Silence.{layer_stepped}
+use Rattle.packet_layer.proofs.Silence.{layer_heard}
 use Rattle.packet_layer.proofs.layer.Layer.take_on_channel.Goals as goal
 
 pub returns-clause-layer : goal.returns-clause-layer
@@ -55,7 +57,10 @@ invariant_of-self c =
     let a = c.self.inside in
     let held = c.index_mut-channel.result.now in
     let there = placed a c.args.self.now c.in-Some.place held c.self.view_is c.in-Some.ensures.1 c.index_mut-channel.ensures.value in
-    layer_stepped a c.insert.new.self c.in-Some.place held c.take_packet-relink.new.self _ c.take_packet-relink.result c.take_packet-relink.new.notes c.self.invariant c.insert.ensures there (rw_fits a.flow c.end-end.result.flow held c.take_packet-relink.new.self (c.end-end.ensures.flow ∙ ap (λ (x : Held). x.layer.flow) (sym c.self.view_is)) c.take_packet-relink.ensures.fits) c.take_packet-relink.ensures.done
+    layer_heard a c.keep_if.new.numbers c.in-Some.place held c.take_packet-relink.new.self _ c.take_packet-relink.result c.has_packet.result
+    c.take_packet-relink.new.notes c.self.invariant c.keep_if.ensures there
+    (c.has_packet.ensures ∙ ap (λ (flow : Flow). is_some (next_of flow c.take_packet-relink.new.self.channel).body) (c.end-end.ensures.flow ∙ ap (λ (x : Held). x.layer.flow) (sym c.self.view_is)))
+    (rw_fits a.flow c.end-end.result.flow held c.take_packet-relink.new.self (c.end-end.ensures.flow ∙ ap (λ (x : Held). x.layer.flow) (sym c.self.view_is)) c.take_packet-relink.ensures.fits) c.take_packet-relink.ensures.done
 
 pub returns-clause-few : goal.returns-clause-few
 returns-clause-few c =
@@ -68,8 +73,8 @@ returns-clause-few c =
 pub index_mut-channel-requires : goal.index_mut-channel-requires
 index_mut-channel-requires c = grind (arith, common_steps)
 
-pub insert-requires : goal.insert-requires
-insert-requires c = grind (arith, common_steps)
+pub keep_if-requires : goal.keep_if-requires
+keep_if-requires c = grind (arith, common_steps)
 
 pub returns-clause-most : goal.returns-clause-most
 returns-clause-most c = grind (arith, common_steps)

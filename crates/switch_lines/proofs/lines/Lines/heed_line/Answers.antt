@@ -8,7 +8,8 @@ use Rattle.switch_lines.specs.Lines.{SwitchLine, changed}
 use Rattle.switch_lines.specs.NewJoins.{NewJoin, joins_of_note, joins_heeded}
 use Rattle.switch_lines.specs.ByPlace.{notes_on}
 use Rattle.switch_lines.specs.Switch.{heed, notes_heeded, with_end}
-use Rattle.switch_lines.proofs.Heeding.{one_heeded, notes_left, no_first, empty_notes, none_heeded}
+use Rattle.switch_lines.proofs.Heeding.{one_heeded, heeded_length, notes_left, no_first, empty_notes, none_heeded}
+use Rattle.switch_lines.proofs.Changing.{length_changed}
 use Rattle.switch_lines.proofs.Heeding.{one_joined, none_joined, first_joined, or_none}
 use Rattle.switch_lines.proofs.lines.Lines.heed_line.Goals as goal
 use Rattle.switch_lines.proofs.lines.Lines.heed_line.Goals.{in-Some, in_default}
@@ -30,12 +31,24 @@ loop-preserved c =
                 (joins_heeded routes n (heed routes n x (changed n (with_end without_first_note) c.loop.self))) (joins_heeded routes n c.loop.self)
                 (w.heed-join.ensures.join ∙ ap (λ (ls : List SwitchLine). joins_of_note routes n x ls) taken) (one_joined routes n x c.loop.self w.in-Some.ensures.note)
                 ∙ c.loop.invariant.first;
+            there =
+                let same = ap (λ (ls : List SwitchLine). length ls) now in
+                let long = heeded_length routes n x (changed n (with_end without_first_note) c.loop.self) in
+                let all = length_changed n (with_end without_first_note) c.loop.self in
+                omega (arith, same, long, all, c.loop.invariant.there);
             count = omega (arith, left, length-drop 1 (notes_on c.loop.self n), c.loop.invariant.count, c.loop-test.true);
           }
       | in_default w ↦
           let none = no_first (notes_on c.loop.self n) w.in_default.ensures.note in
           absurd (omega (arith, none, c.loop.invariant.count, c.loop-test.true))
     ]
+
+pub heed-join-requires : goal.heed-join-requires
+heed-join-requires c =
+    let n = c.args.line in
+    let same = ap (λ (ls : List SwitchLine). length ls) c.notes.ensures.lines in
+    let all = length_changed n (with_end without_first_note) c.loop.self in
+    omega (arith, same, all, c.loop.invariant.there)
 
 pub returns-clause-lines : goal.returns-clause-lines
 returns-clause-lines c =

@@ -4,7 +4,8 @@ use Rattle.data_transfer.specs.TakenView.{taken_of}
 use Rattle.data_transfer.specs.Traffic.{Taken as TakenValue}
 use Rattle.switch_lines.specs.Lines.{SwitchLine}
 use Rattle.switch_lines.specs.ByPlace.{MovesFront}
-use Rattle.switch_lines.proofs.Relaying.{turned_on, asked_length}
+use Rattle.switch_lines.proofs.Places.{asked_length}
+use Rattle.switch_lines.proofs.Relaying.{turned_on}
 use Rattle.switch_lines.proofs.lines.Lines.move_turned.Goals as goal
 
 pub turn-requires-clause-there : goal.turn-requires-clause-there
@@ -15,6 +16,12 @@ turn-requires-clause-there c =
 
 pub turn-requires-clause-other : goal.turn-requires-clause-other
 turn-requires-clause-other c =
+    let same = ap (λ (ls : List SwitchLine). length ls) c.take.ensures.lines in
+    let long = asked_length c.args.leg Taking c.args.self.now in
+    omega (arith, same, long, c.requires.other)
+
+pub ask-requires : goal.ask-requires
+ask-requires c =
     let same = ap (λ (ls : List SwitchLine). length ls) c.take.ensures.lines in
     let long = asked_length c.args.leg Taking c.args.self.now in
     omega (arith, same, long, c.requires.other)

@@ -15,7 +15,7 @@ use Rattle.switch_lines.specs.Lines.{SwitchLine, ask, front_of_line, joined_at}
 use Rattle.switch_lines.specs.ByPlace.{MovesFront, kept_at}
 use Rattle.switch_lines.specs.Pooled.{plain}
 use Rattle.switch_lines.specs.Switch.{with_end}
-use Rattle.switch_lines.proofs.Pooled.{one_changed, one_seen, one_touched, seen_within, handed_out, handed_in, none_in_hand, is_in_hand}
+use Rattle.switch_lines.proofs.Pooled.{one_changed, one_seen, one_touched, seen_within, within_plain, handed_out, handed_in, none_in_hand, is_in_hand}
 use Rattle.switch_lines.proofs.Touched.{count_kept, count_written}
 use Rattle.switch_lines.specs.Waiting.{other_at}
 use Rattle.switch_lines.proofs.Calmer.{request_apart, onward_calm}
@@ -180,8 +180,27 @@ returns-in-Some-Data c =
     subst (λ (o : Option TakenValue). MovesFront o c.args.leg q c.args.self.now c.pass.new.self) front
     (carried_on ∙ whole_on d c.args.self.now c.args.leg q c.requires.whole c.requires.nothing, tt)
 
-pub pass-requires : goal.pass-requires
-pass-requires c =
+pub ask-requires : goal.ask-requires
+ask-requires c =
+    let xs = c.self.inside.lines.items in
+    let n = c.args.leg.line in
+    let m = c.args.other.line in
+    let new = c.take_buf.new.self in
+    let kept = count_written xs n new in
+    within_plain (set xs n new) m (omega (arith, kept, seen_within xs c.args.self.now m c.self.view_is c.requires.other))
+
+pub pass-requires-clause-there : goal.pass-requires-clause-there
+pass-requires-clause-there c =
+    let xs = c.self.inside.lines.items in
+    let n = c.args.leg.line in
+    let m = c.args.other.line in
+    let ys = set xs n c.take_buf.new.self in
+    let kept = count_written xs n c.take_buf.new.self in
+    let kept_too = count_written ys m c.send_packet.new.self in
+    within_plain (set ys m c.send_packet.new.self) n (omega (arith, kept, kept_too, seen_within xs c.args.self.now n c.self.view_is c.requires.there))
+
+pub pass-requires-clause-nothing : goal.pass-requires-clause-nothing
+pass-requires-clause-nothing c =
     let xs = c.self.inside.lines.items in
     let within = seen_within xs c.args.self.now c.args.leg.line c.self.view_is c.requires.there in
     let n = c.args.leg.line in

@@ -1,9 +1,9 @@
-use Rattle.std.proofs.Common.{◌∙◌, ap, List, Option}
+use Rattle.std.proofs.Common.{◌∙◌, ap, List, Option, set, arith}
 use Rattle.packet_end.specs.PacketEnd as end
 use Rattle.switch_lines.specs.Lines.{SwitchLine}
 use Rattle.switch_lines.specs.Switch.{notes_heeded, notes_of, with_end, quieted}
-use Rattle.switch_lines.proofs.Pooled.{one_changed, one_seen, one_touched, seen_within, pooled_set, serves_one}
-use Rattle.switch_lines.proofs.Touched.{count_kept}
+use Rattle.switch_lines.proofs.Pooled.{one_changed, one_seen, one_touched, seen_within, within_plain, pooled_set, serves_one}
+use Rattle.switch_lines.proofs.Touched.{count_kept, count_written}
 use Rattle.std.proofs.Common.{refl}
 use Rattle.switch_lines.proofs.Calmer.{after_timer_calm}
 use Rattle.switch_lines.proofs.Moving.{one_calm}
@@ -48,3 +48,10 @@ on_timer-requires-clause-read c =
     (one_seen c.self.inside.lines.items c.args.self.now c.args.line c.index_mut.result.now c.self.view_is
     within c.index_mut.ensures.value)
     ∙ c.requires.read c.args.line
+
+pub heed_line-requires : goal.heed_line-requires
+heed_line-requires c =
+    let xs = c.self.inside.lines.items in
+    let new = c.on_timer.new.self in
+    let kept = count_written xs c.args.line new in
+    within_plain (set xs c.args.line new) c.args.line (omega (arith, kept, seen_within xs c.args.self.now c.args.line c.self.view_is c.requires.there))

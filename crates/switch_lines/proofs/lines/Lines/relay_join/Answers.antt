@@ -17,7 +17,7 @@ pub rest_join-requires-clause-joined : goal.rest_join-requires-clause-joined
 rest_join-requires-clause-joined c =
     still_joined c.args.self.now c.relay_channel-all.new.self c.relay_channel-all_back.new.self c.args.leg
     c.in-Some.other c.args.leg c.relay_channel-all.ensures.lines c.relay_channel-all_back.ensures.lines
-    ∙ sym c.in-Some.ensures
+    ∙ sym c.in-Some.ensures.other
 
 pub rest_join-requires-clause-back : goal.rest_join-requires-clause-back
 rest_join-requires-clause-back c = c.if-is_joined_to.ensures

@@ -1,5 +1,5 @@
-use Rattle.std.proofs.Common.{◌-◌, ◌+◌, ap, refl, subst, sym, ◌∙◌, arith, length, List}
-use Rattle.switch_lines.specs.Lines.{SwitchLine}
+use Rattle.std.proofs.Common.{◌-◌, ◌+◌, ap, refl, subst, sym, ◌∙◌, arith, length, List, Option}
+use Rattle.switch_lines.specs.Lines.{Joined, SwitchLine}
 use Rattle.switch_lines.specs.Pooled.{plain}
 use Rattle.switch_lines.specs.Waiting.{NothingElseMoves}
 use Rattle.switch_lines.proofs.Pooled.{plain_get, plain_length}
@@ -14,7 +14,7 @@ loop-channel-init c =
     record {
       left = whole_line (plain items) c.args.self.now c.args.line c.channels-end.result (c.channels-end.result + 1)
           c.index.result.now.line c.self.view_is (omega (arith, long, c.if-line-len.true, c.len.ensures))
-          (plain_get items c.args.line c.index.result.now c.index.ensures) c.channels-end.ensures.count refl;
+          (plain_get items c.args.line c.index.result.now c.index.ensures) (c.channels-end.ensures.count ∙ ap (λ (js : List (Option Joined)). length js) c.joins.ensures.joined) refl;
       least = omega arith;
       most = omega arith;
     }

@@ -5,8 +5,14 @@ use Rattle.switch_lines.specs.Lines.{SwitchLine, same_place, front_at}
 use Rattle.switch_lines.specs.Waiting.{NothingElseMoves}
 use Rattle.switch_joins.proofs.ChannelSets.{still_in, added_in, taken_out}
 use Rattle.switch_lines.proofs.Moving.{shown_waits}
-use Rattle.switch_lines.proofs.Waiting.{place_same, stopped}
+use Rattle.switch_lines.proofs.Waiting.{place_same, joined_there, stopped}
 use Rattle.switch_lines.proofs.lines.Lines.rest_join.Goals as goal
+
+pub front-requires : goal.front-requires
+front-requires c = joined_there c.args.self.now c.args.leg c.args.other c.requires.joined
+
+pub front-requires-2 : goal.front-requires-2
+front-requires-2 c = joined_there c.args.self.now c.args.other c.args.leg c.requires.back
 
 pub invariant_of-self : goal.invariant_of-self
 invariant_of-self c =

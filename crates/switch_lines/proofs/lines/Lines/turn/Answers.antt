@@ -8,7 +8,7 @@ use Rattle.switch_joins.specs.Turning.{Sizes, Gathered, Turn, turned}
 use Rattle.switch_joins.proofs.ChannelSets.{not_of_join}
 use Rattle.switch_joins.proofs.Slots.{nth_apart}
 use Rattle.switch_joins.proofs.Turning.{turned_left}
-use Rattle.switch_lines.specs.Lines.{SwitchLine, ask_all, joined_on, sizes_at}
+use Rattle.switch_lines.specs.Lines.{Joined, SwitchLine, ask_all, joined_on, sizes_at}
 use Rattle.joined_line.specs.OfLine.{asked_on, kept_on}
 use Rattle.switch_lines.specs.ByPlace.{kept_at}
 use Rattle.switch_lines.specs.Pooled.{PooledLine, plain}
@@ -25,8 +25,9 @@ use Rattle.switch_lines.proofs.lines.Lines.turn.Goals as goal
 pub turned-turned-requires : goal.turned-turned-requires
 turned-turned-requires c =
     let xs = c.self.inside.lines.items in
-    (serves_one c.self.inside.pool xs c.args.leg.line c.index-near.result.now c.self.invariant.pooled
-    (seen_within xs c.args.self.now c.args.leg.line c.self.view_is c.requires.there) c.index-near.ensures).holds
+    c.joins-joins.ensures.held c.self.inside.pool
+    (serves_one c.self.inside.pool xs c.args.leg.line c.index.result.now c.self.invariant.pooled
+    (seen_within xs c.args.self.now c.args.leg.line c.self.view_is c.requires.there) c.index.ensures).holds
 
 pub send_all-requires-clause-pool : goal.send_all-requires-clause-pool
 send_all-requires-clause-pool c =
@@ -75,7 +76,7 @@ carry-requires-clause-size c =
     let at = there xs m old inside c.index_mut.ensures.value in
     let fits = c.sizes_of-sizes.ensures.fits old (ap (λ (ps : List PooledLine). slice_get ps m) c.deref.ensures.value ∙ at) in
     let info = info_there c.self.inside.pool.size xs m old c.self.invariant.pooled.within at in
-    let left = turned_left c.sizes_of-sizes.result (gathered_by (nth_joined c.index-near.result.now.line.joined c.args.leg.channel)) c.args.packet.now in
+    let left = turned_left c.sizes_of-sizes.result (gathered_by (nth_joined c.joins-joins.result.now.joined c.args.leg.channel)) c.args.packet.now in
     let is = ap (λ (t : Turn). length t.left.octets) c.turned-turned.ensures in
     omega (arith, fits, info, left, is, c.send_all.ensures.pool.size)
 
@@ -129,17 +130,18 @@ returns c =
     let sent = one_changed (asked_on c.args.other.channel qs) xs ls m c.index_mut.result.now new c.self.view_is inside c.index_mut.ensures.value c.send_all.ensures.line
     ∙ asks_changed c.args.other qs ls in
     let f = carried c.delivery.result turn in
-    let seen = one_seen xs ls n c.index-near.result.now c.self.view_is near c.index-near.ensures in
+    let seen = one_seen xs ls n c.index.result.now c.self.view_is near c.index.ensures in
     let sizes = c.sizes_of-sizes.ensures.sizes ∙ ap (λ (ps : List PooledLine). sizes_at (plain ps) c.args.leg c.args.other) c.deref.ensures.value
     ∙ ap (λ (xs : List SwitchLine). sizes_at xs c.args.leg c.args.other) c.self.view_is in
     let turns = c.turned-turned.ensures ∙ ap₂ (λ (s : Sizes) (g : Gathered). turned s g c.args.packet.now) sizes
-    (ap (λ (o : Option SwitchLine). gathered_by (joined_on o c.args.leg.channel)) seen) in
+    (ap (λ (js : List (Option Joined)). gathered_by (nth_joined js c.args.leg.channel)) c.joins-joins.ensures.joined
+    ∙ ap (λ (o : Option SwitchLine). gathered_by (joined_on o c.args.leg.channel)) seen) in
     one_changed (kept_on c.args.leg.channel f) ys (plain ys) n c.index_mut-2.result.now c.carry.new.self refl here c.index_mut-2.ensures.value c.carry.ensures.line
     ∙ ap (λ (xs : List SwitchLine). kept_at c.args.leg f xs) sent
     ∙ ap₂ (λ (b : Bool) (t : Turn). kept_at c.args.leg (carried b t) (ask_all c.args.other (map Sending t.made) ls)) c.delivery.ensures turns
 
-pub index-near-requires : goal.index-near-requires
-index-near-requires c = grind (arith, common_steps)
+pub index-requires : goal.index-requires
+index-requires c = grind (arith, common_steps)
 
 pub index_mut-requires : goal.index_mut-requires
 index_mut-requires c = grind (arith, common_steps)

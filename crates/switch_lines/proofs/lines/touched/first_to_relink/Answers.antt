@@ -1,4 +1,6 @@
 use Rattle.std.proofs.Common.{◌∙◌, ap, sym}
+use Rattle.packet_layer.specs.Layer.{Layer}
+use Rattle.packet_end.specs.PacketEnd.{PacketEnd}
 use Rattle.switch_lines.specs.Lines.{SwitchLine}
 use Rattle.switch_lines.specs.Pooled.{plain}
 use Rattle.switch_lines.proofs.Pooled.{plain_get}
@@ -9,7 +11,7 @@ pub returns-then-must_relink : goal.returns-then-must_relink
 returns-then-must_relink c =
     sym (asks c.loop-line.which c.take_first.new.self c.in-Some.line (plain c.args.lines.now) c.index-lines-line.result.line
     c.must_relink.result
-    c.in-Some.ensures.first c.loop-line.invariant.there (c.must_relink.ensures
+    c.in-Some.ensures.first c.loop-line.invariant.there (c.must_relink.ensures ∙ ap (λ (l : Layer). l.relink) c.deref-in-Some.ensures ∙ ap (λ (e : PacketEnd). e.layer.relink) c.deref.ensures.end
     ∙ ap (λ (x : SwitchLine). x.end.layer.relink) (plain_get c.args.lines.now c.in-Some.line c.index-lines-line.result c.index-lines-line.is)) c.if-must_relink.true)
     ∙ c.loop-line.invariant.first
 
@@ -21,7 +23,8 @@ loop-line-preserved c =
           c.loop-line.invariant.there;
       first = asks_not c.loop-line.which c.take_first.new.self c.in-Some.line (plain c.args.lines.now) c.index-lines-line.result.line
           c.must_relink.result
-          first c.loop-line.invariant.there (c.must_relink.ensures ∙ ap (λ (x : SwitchLine). x.end.layer.relink)
+          first c.loop-line.invariant.there (c.must_relink.ensures ∙ ap (λ (l : Layer). l.relink) c.deref-in-Some.ensures
+          ∙ ap (λ (e : PacketEnd). e.layer.relink) c.deref.ensures.end ∙ ap (λ (x : SwitchLine). x.end.layer.relink)
           (plain_get c.args.lines.now c.in-Some.line c.index-lines-line.result c.index-lines-line.is)) c.if-must_relink.false ∙ c.loop-line.invariant.first;
     }
 

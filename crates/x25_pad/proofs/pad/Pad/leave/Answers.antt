@@ -1,13 +1,17 @@
 -- What happens at a port.
-use Rattle.std.proofs.Common.{◌∙◌}
+use Rattle.std.proofs.Common.{Some, ap, length, replicate, ◌++◌, ◌-◌, ◌∙◌}
 use Rattle.pad_ports.specs.Ports as port
 use Rattle.x25_pad.specs.PadView.{pad_of}
+use Rattle.x25_pad.specs.declared.pad.Pad.TheInside.{Inside}
 use Rattle.x25_pad.proofs.Acting.{acts_at}
 use Rattle.x25_pad.proofs.pad.Pad.leave.Goals as goal
 
 pub returns-clause-pad : goal.returns-clause-pad
 returns-clause-pad c =
-    c.name_notes.ensures.pad
-    ∙ acts_at port.after_leaving (pad_of c.self.inside) c.args.self.now c.args.terminal c.from.result c.index_mut.result.now
-    c.leave.new.self c.leave.new.line c.self.view_is c.from.ensures c.requires.there c.index_mut.ensures.value
+    let is = c.self-inside.view_is in
+    ap (λ (a : Inside). record (pad_of a) { noted_at = c.fill.new.self }) is
+    ∙ acts_at port.after_leaving (pad_of c.self.inside) c.args.self.now c.args.terminal c.from.result c.len.result c.index_mut.result.now
+    c.leave.new.self c.leave.new.line c.fill.new.self c.self.view_is c.from.ensures c.requires.there c.index_mut.ensures.value
     c.leave.ensures.port c.leave.ensures.line
+    (c.len.ensures.count ∙ ap (λ (a : Inside). length a.line.notes) is)
+    (c.fill.ensures ∙ ap (λ (a : Inside). a.noted_at ++ replicate (c.len.result - length a.noted_at) (Some c.args.terminal)) is)

@@ -3,4 +3,4 @@ use Rattle.std.proofs.lemmas.Grind.{common_steps}
 use Rattle.x25_pad.proofs.pad.Pad.new.Goals as goal
 
 pub invariant_of-result : goal.invariant_of-result
-invariant_of-result c = grind (arith, common_steps)
+invariant_of-result c = record { most = grind (arith, common_steps); named = grind (arith, common_steps) }

@@ -13,6 +13,5 @@ returns-in_default c =
       ran = c.on_line_timer.ensures.ran ∙ is.0;
       pad = c.on_line_timer.ensures.pad ∙ is.1;
       nothing_kept_back = c.on_line_timer.ensures.nothing_kept_back;
-      named = c.on_line_timer.ensures.named;
       frames = subst (λ (l : List Octets). OnTrue c.on_line_timer.result (c.on_line_timer.new.self.line.end.line.frames ≡ l)) is.2 c.on_line_timer.ensures.frames;
     }

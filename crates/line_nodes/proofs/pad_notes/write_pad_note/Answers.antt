@@ -1,5 +1,0 @@
-use Rattle.std.proofs.Common.{rules, tests}
-use Rattle.line_nodes.proofs.pad_notes.write_pad_note.Goals as goal
-
-pub returns-in-Accepted : goal.returns-in-Accepted
-returns-in-Accepted c = search (rules, tests)

@@ -1,5 +1,0 @@
-use Rattle.std.proofs.Common.{rules, tests}
-use Rattle.net_turns.proofs.hosts.take.Goals as goal
-
-pub returns-clause-book : goal.returns-clause-book
-returns-clause-book c = search (rules, tests)

@@ -1,6 +1,0 @@
-use Rattle.net_turns.proofs.Opening.{opened}
-use Rattle.net_turns.proofs.serving.open_turn.Goals as goal
-
-pub returns-clause-opened : goal.returns-clause-opened
-returns-clause-opened c =
-    opened c.open.result c.args.line _ c.open.new.self (c.open.ensures.at c.requires) c.open.ensures.same (c.open.ensures.book c.requires) c.open.ensures.room c.open.ensures.pairs

@@ -1,5 +1,0 @@
-use Rattle.std.proofs.Common.{rules, tests}
-use Rattle.net_turns.proofs.terminals.show.Goals as goal
-
-pub returns-clause-text : goal.returns-clause-text
-returns-clause-text c = search (rules, tests)
