@@ -141,10 +141,10 @@ def datagrams_of_a_dce(program: str) -> None:
 def datagrams_get_lost(program: str) -> None:
     """Each fifth frame gets lost, both ways."""
     with joined(program, lose=lapb_peer.every(5)) as (service, link, _), beside(service):
-        octets = some_octets(LITTLE, 42)
+        octets = some_octets(LITTLE // 2, 42)  # each loss takes T1 to be mended
         call = link.call("2001")
         call.send(octets)
-        expect(digest(call.read(LITTLE)), digest(octets), "the digest of what came back")
+        expect(digest(call.read(len(octets))), digest(octets), "the digest of what came back")
         call.clear()
 
 
