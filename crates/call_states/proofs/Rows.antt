@@ -69,16 +69,6 @@ pub kept_at : (role : Role) (place : EndState) (event : CallEvent) (done : CallS
     → step_at role place event ≡ Some done → IsSome (end_state_of role done.state)
 kept_at role place event done e = kept_by role place (row_for role place event) done e
 
-kept_from : (role : Role) (from : Option EndState) (event : CallEvent) (done : CallStep)
-    → option_and_then (λ place. step_at role place event) from ≡ Some done → IsSome (end_state_of role done.state)
-kept_from role None event done e = absurd (cc)
-kept_from role (Some place) event done e = kept_at role place event done e
-
--- an end stays among its own states and far waiting
-pub step_of-kept : (role : Role) (state : CallState) (event : CallEvent) (done : CallStep)
-    → step_of role state event ≡ Some done → IsSome (end_state_of role done.state)
-step_of-kept role state event done e = kept_from role (end_state_of role state) event done e
-
 row_from : (role : Role) (from : Option EndState) (kind : PacketType)
     → IsSome from → IsSome (option_and_then (λ place. step_at role place (Received kind)) from)
 row_from role None kind h = absurd (cc)

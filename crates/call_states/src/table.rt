@@ -67,13 +67,28 @@ pub struct CallStep {
 impl CallState {
     /// The step of the state table for an event. The table has a row for the role, the state and the event (X.25
     /// Annex C, table C-3).
+    #[tactic(auto, using(crate::proofs::Rows::kept_at))]
     pub fn step(role: Role, state: CallState, event: CallEvent) -> CallStep
         requires { IsSome (step_of role state event) }
         ensures row { step_of role state event ≡ Some result }
         // The state in which the other end clears is never entered.
         ensures kept { IsSome (end_state_of role result.state) }
     {
-        met(role, state, event)
+        match (role, state) {
+            (_, CallState::Ready) => in_ready(role, event),
+            (Role::Dte, CallState::DteWaiting) | (Role::Dce, CallState::DceWaiting) => {
+                in_own_waiting(role, event)
+            }
+            (Role::Dte, CallState::DceWaiting) | (Role::Dce, CallState::DteWaiting) => {
+                in_far_waiting(role, event)
+            }
+            (_, CallState::DataTransfer) => in_data_transfer(role, event),
+            (_, CallState::CallCollision) => in_collision(role, event),
+            (Role::Dte, CallState::DteClear) | (Role::Dce, CallState::DceClear) => {
+                in_own_clear(role, event)
+            }
+            (Role::Dte, CallState::DceClear) | (Role::Dce, CallState::DteClear) => unreachable!(),
+        }
     }
 
     /// Whether the user of this end may call, accept or clear in this state: whether the table has a row for it.
@@ -93,28 +108,6 @@ impl CallState {
                     || self == CallState::CallCollision
             }
         }
-    }
-}
-
-/// The step of the row that the event meets.
-fn met(role: Role, state: CallState, event: CallEvent) -> CallStep
-    requires { IsSome (step_of role state event) }
-    ensures { step_of role state event ≡ Some result }
-{
-    match (role, state) {
-        (_, CallState::Ready) => in_ready(role, event),
-        (Role::Dte, CallState::DteWaiting) | (Role::Dce, CallState::DceWaiting) => {
-            in_own_waiting(role, event)
-        }
-        (Role::Dte, CallState::DceWaiting) | (Role::Dce, CallState::DteWaiting) => {
-            in_far_waiting(role, event)
-        }
-        (_, CallState::DataTransfer) => in_data_transfer(role, event),
-        (_, CallState::CallCollision) => in_collision(role, event),
-        (Role::Dte, CallState::DteClear) | (Role::Dce, CallState::DceClear) => {
-            in_own_clear(role, event)
-        }
-        (Role::Dte, CallState::DceClear) | (Role::Dce, CallState::DteClear) => unreachable!(),
     }
 }
 

@@ -100,16 +100,6 @@ impl<M: Modulus> SendWindow<M> {
         ensures refused { (oldest next highest : ℕ) → Shows M.modulus self.old oldest next highest
             → ((count : ℕ) → Names M.modulus oldest highest nr count → ⊥) → IsErr result }
     {
-        self.acknowledge(nr)
-    }
-
-    fn acknowledge(&mut self, nr: u8) -> Result<u8, OutOfWindow>
-        ensures window { MatchResult result
-            (λ newly. IsInWindow M.modulus self.old nr × (newly ≡ ahead M.modulus self.old.oldest nr)
-            × (self.new ≡ acknowledged M.modulus self.old nr))
-            (λ _. (IsInWindow M.modulus self.old nr → ⊥) × (self.new ≡ self.old)) }
-        ensures size { self.old.size < M.modulus }
-    {
         let top = self.top;
         let Some(nr) = Seq::new(nr) else {
             return Err(OutOfWindow);

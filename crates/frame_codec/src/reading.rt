@@ -42,13 +42,6 @@ pub fn read_frame(bytes: &[u8], at: Role, info: u16) -> Result<Frame<'_>, FrameF
     // The same as a function of the octets.
     ensures reading { frame_read result ≡ reading at info bytes.now }
 {
-    frame_in(bytes, at, info)
-}
-
-#[inline(always)]
-fn frame_in(bytes: &[u8], at: Role, info: u16) -> Result<Frame<'_>, FrameFault>
-    ensures { frame_read result ≡ reading at info bytes.now }
-{
     let [address, control, field @ ..] = bytes else {
         return Err(FrameFault::TooShort);
     };

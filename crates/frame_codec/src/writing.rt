@@ -5,7 +5,6 @@ ghost use Rattle.frame_codec.specs.FrameForm.{FrameForm};
 ghost use Rattle.frame_codec.specs.Views.{report_of, content_of, value_of};
 ghost use Rattle.frame_codec.specs.Spelling.{
   control_of,
-  states_of,
   reasons_of,
   spelling,
   most_information,
@@ -39,7 +38,8 @@ pub fn write_frame(frame: &Frame<'_>, from: Role, out: &mut FrameBuf)
         FrameKind::I { information, .. } => out.extend(information),
         FrameKind::Frmr(report) => {
             out.push(report.control);
-            out.push(states_octet(&report));
+            // V(R), whether a response was rejected, and V(S).
+            out.push(octet_of(report.vr, report.response, report.vs));
             out.push(reasons_octet(&report));
         }
         _ => {}
@@ -62,15 +62,6 @@ fn control_octet(kind: &FrameKind<'_>, pf: bool) -> u8
         FrameKind::Ua => octet_of(0, pf, 0) + 0x63,
         FrameKind::Frmr(_) => octet_of(0, pf, 0) + 0x87,
     }
-}
-
-/// V(S), whether a response was rejected, and V(R).
-fn states_octet(report: &Rejection) -> u8
-    requires vs { report.now.vs < 8 }
-    requires vr { report.now.vr < 8 }
-    ensures { result ≡ states_of (report_of report.now) }
-{
-    octet_of(report.vr, report.response, report.vs)
 }
 
 /// W, X, Y and Z.

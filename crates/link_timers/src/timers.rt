@@ -132,7 +132,9 @@ impl Timers {
         ensures left { left_of self.new id ≡ None }
         ensures others { (other : TimerId) → other ≢ id → left_of self.new other ≡ left_of self.old other }
     {
-        self.fire(id);
+        if let Some(place) = place(id) {
+            self.left[place] = None;
+        }
     }
 
     /// Whether a timer runs, also with no tick left.

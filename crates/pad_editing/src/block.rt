@@ -3,6 +3,7 @@ ghost use Rattle.std.specs.Prelude.{◌≡◌, ◌≤◌, length};
 
 use arrayvec::ArrayVec;
 use std::marker::Model;
+use std::ops::Deref;
 
 /// How many octets a block has at most: those of one Data packet.
 pub const BLOCK_LIMIT: usize = 128;
@@ -23,6 +24,19 @@ impl Model for Block {
     ghost invariant = { λ b. (1 ≤ length b.octets.items) × (length b.octets.items ≤ 128) };
 }
 
+impl Deref for Block {
+    type Target = ArrayVec<u8, BLOCK_LIMIT>;
+
+    /// The octets, 1 to 128 of them.
+    fn deref(&self) -> &ArrayVec<u8, BLOCK_LIMIT>
+        ensures octets { result.now.items ≡ self.now }
+        ensures some { 1 ≤ length self.now }
+        ensures limit { length self.now ≤ 128 }
+    {
+        &self.octets
+    }
+}
+
 impl Block {
     /// The block of a text.
     pub(crate) fn of(octets: ArrayVec<u8, BLOCK_LIMIT>) -> Block
@@ -31,14 +45,5 @@ impl Block {
         ensures { result ≡ octets.items }
     {
         Block { octets }
-    }
-
-    /// The octets, 1 to 128 of them.
-    pub fn as_slice(&self) -> &[u8]
-        ensures octets { result.now ≡ self.now }
-        ensures some { 1 ≤ length self.now }
-        ensures limit { length self.now ≤ 128 }
-    {
-        self.octets.as_slice()
     }
 }

@@ -4,6 +4,7 @@ ghost use Rattle.pad_editing.specs.Echoes.{function_echo};
 
 use arrayvec::ArrayVec;
 use std::marker::Model;
+use std::ops::Deref;
 use x3_params::EditingFunction;
 
 /// The longest text that an echo can show.
@@ -19,11 +20,25 @@ pub struct Echo {
 }
 
 impl Model for Echo {
-    ghost use Rattle.std.specs.Prelude.{ℕ, List};
+    ghost use Rattle.std.specs.Prelude.{ℕ, List, ◌≤◌, length};
 
     ghost Value = { List ℕ };
 
     ghost view = { λ e. e.octets.items };
+
+    ghost invariant = { λ e. length e.octets.items ≤ 129 };
+}
+
+impl Deref for Echo {
+    type Target = ArrayVec<u8, ECHO_LIMIT>;
+
+    /// The octets, at most 129 of them.
+    fn deref(&self) -> &ArrayVec<u8, ECHO_LIMIT>
+        ensures octets { result.now.items ≡ self.now }
+        ensures limit { length self.now ≤ 129 }
+    {
+        &self.octets
+    }
 }
 
 impl Echo {
@@ -59,14 +74,6 @@ impl Echo {
             EditingFunction::CharacterDelete => joined(b"\x08 \x08", &[]),
             EditingFunction::LineDelete => joined(b"XXX\r\n", &[]),
         }
-    }
-
-    /// The octets, at most 129 of them.
-    pub fn as_slice(&self) -> &[u8]
-        ensures octets { result.now ≡ self.now }
-        ensures limit { length self.now ≤ 129 }
-    {
-        self.octets.as_slice()
     }
 }
 

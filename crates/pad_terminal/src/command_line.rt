@@ -6,6 +6,7 @@ ghost use Rattle.pad_editing.specs.Echoes.{function_echo};
 use arrayvec::ArrayVec;
 use pad_editing::Echo;
 use std::marker::Model;
+use std::ops::Deref;
 use x3_params::{EditingFunction, Params};
 use x28_commands::hides_echo;
 
@@ -36,6 +37,18 @@ impl Model for CommandLine {
     ghost invariant = { λ l. length l.octets.items ≤ HELD_LIMIT };
 }
 
+impl Deref for CommandLine {
+    type Target = ArrayVec<u8, HELD_LIMIT>;
+
+    /// The octets of the line.
+    fn deref(&self) -> &ArrayVec<u8, HELD_LIMIT>
+        ensures octets { result.now.items ≡ self.now }
+        ensures limit { length self.now ≤ HELD_LIMIT }
+    {
+        &self.octets
+    }
+}
+
 impl CommandLine {
     /// An empty line.
     pub(crate) fn new() -> CommandLine
@@ -44,21 +57,6 @@ impl CommandLine {
         CommandLine {
             octets: ArrayVec::new(),
         }
-    }
-
-    /// The octets of the line.
-    pub(crate) fn as_slice(&self) -> &[u8]
-        ensures octets { result.now ≡ self.now }
-        ensures limit { length self.now ≤ HELD_LIMIT }
-    {
-        self.octets.as_slice()
-    }
-
-    /// Empties the line.
-    pub(crate) fn clear(&mut self)
-        ensures { self.new ≡ [] }
-    {
-        self.octets.clear();
     }
 
     /// Whether the next key is echoed (X.3 3.2, X.28 3.2.2).

@@ -21,8 +21,8 @@ pub const TEXT_LIMIT: usize = 1024;
 /// is at after it.
 #[derive(Drop)]
 pub(crate) struct Output {
-    text: HeapCircularBuffer<u8>,
-    column: u16,
+    pub(crate) text: HeapCircularBuffer<u8>,
+    pub(crate) column: u16,
 }
 
 impl Model for Output {
@@ -54,13 +54,6 @@ impl Output {
     {
         self.text.clear();
         self.column = 0;
-    }
-
-    /// Adds octets as they stand.
-    pub(crate) fn write(&mut self, octets: &[u8])
-        ensures { self.new ≡ with_octets octets.now self.old }
-    {
-        self.text.extend_from_slice(octets);
     }
 
     /// Adds what is echoed, laid out for the terminal.
@@ -107,46 +100,7 @@ impl Output {
     {
         let mut text = ArrayVec::<u8, SIGNAL_LIMIT>::new();
         write_signal(signal, &mut text);
-        self.write(text.as_slice());
-    }
-
-    /// Whether text waits.
-    pub(crate) fn has_text(&self) -> bool
-        ensures { result ≡ not (length self.now.text == 0) }
-    {
-        !self.text.is_empty()
-    }
-
-    /// Takes the text that waits, and adds it to `out`.
-    pub(crate) fn take<const N: usize>(&mut self, out: &mut ArrayVec<u8, N>)
-        requires { array_vec_len out.old + TEXT_LIMIT ≤ N }
-        ensures output { self.new ≡ record self.old { text = [] } }
-        ensures text { out.new.items ≡ out.old.items ++ self.old.text }
-        ensures room { array_vec_len out.new ≤ array_vec_len out.old + TEXT_LIMIT }
-    {
-        let (first, second) = self.text.as_slices();
-        let _ = out.try_extend_from_slice(first);
-        let _ = out.try_extend_from_slice(second);
-        self.text.clear();
-    }
-
-    /// Lays octets of the far end out for the terminal, and adds them to `out`; where output is discarded nothing.
-    pub(crate) fn lay_out<const N: usize>(
-        &mut self,
-        octets: &[u8],
-        params: &Params,
-        out: &mut ArrayVec<u8, N>,
-    )
-        requires { array_vec_len out.old + OCTET_LIMIT * length octets.now ≤ N }
-        ensures output { self.new ≡ record self.old {
-          column = (laid_out octets.now params.now self.old.column).column;
-        } }
-        ensures text { out.new.items ≡ out.old.items ++ (laid_out octets.now params.now self.old.column).text }
-        ensures room { array_vec_len out.new ≤ array_vec_len out.old + OCTET_LIMIT * length octets.now }
-    {
-        if !params.discards_output() {
-            self.column = Display::text(octets, false, params, self.column, out);
-        }
+        self.text.extend_from_slice(text.as_slice());
     }
 }
 
@@ -165,7 +119,7 @@ fn echo_octet(octet: u8, params: &Params, column: u16, waiting: &mut HeapCircula
     echo_laid_out(octet, params, column, waiting)
 }
 
-/// Does so for an octet that may take more than its own place.
+/// Adds one octet that is echoed, as [`echo_octet`] does, where it may take more than its own place.
 #[inline(never)]
 fn echo_laid_out(
     octet: u8,

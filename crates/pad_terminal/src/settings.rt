@@ -54,7 +54,7 @@ impl Settings {
     }
 
     /// Puts other values in force. A terminal that may not stop its output has not stopped it.
-    fn put(&mut self, params: Params)
+    pub(crate) fn put(&mut self, params: Params)
         ensures { self.new ≡ spec.with_params params self.old }
     {
         self.output_stopped = self.output_stopped && params.has_flow_control();
@@ -107,13 +107,6 @@ impl Settings {
     {
         let params = self.params;
         self.put(Params::profile(profile, params.speed()));
-    }
-
-    /// Takes the initial values.
-    pub(crate) fn set_initial(&mut self)
-        ensures { self.new ≡ spec.with_initial self.old }
-    {
-        self.put(self.initial);
     }
 
     /// The value of a parameter, if there is one.

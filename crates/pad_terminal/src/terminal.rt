@@ -15,7 +15,7 @@ use crate::mode::Mode;
 use crate::output::{Output, TEXT_LIMIT};
 use crate::settings::Settings;
 use arrayvec::ArrayVec;
-use pad_editing::{Editor, OCTET_LIMIT};
+use pad_editing::{Display, Editor, OCTET_LIMIT};
 use std::alloc::{AllocError, Global};
 use std::marker::Model;
 use x3_params::Params;
@@ -77,7 +77,7 @@ impl Terminal {
     {
         self.mode = Mode::Free;
         self.settings = Settings::new(self.settings.initial);
-        self.line.clear();
+        self.line = CommandLine::new();
         self.leave_call();
         self.output.clear();
         self.device_stopped = false;
@@ -152,8 +152,9 @@ impl Terminal {
         ensures { self.new ≡ calls.connected self.old }
     {
         self.mode = Mode::DataTransfer;
-        self.line.clear();
-        self.signal(&Signal::Connected);
+        self.line = CommandLine::new();
+        self.output
+            .signal(&Signal::Connected, &self.settings.params);
     }
 
     /// Learns that its call was cleared, with this cause, or could not be placed. Held text is dropped. The prompt is
@@ -168,7 +169,8 @@ impl Terminal {
     pub fn on_reset(&mut self, cause: u8)
         ensures { self.new ≡ calls.reset cause self.old }
     {
-        self.signal(&Signal::ResetIndication(cause));
+        self.output
+            .signal(&Signal::ResetIndication(cause), &self.settings.params);
     }
 
     /// Without the call no text is held, and no output is stopped.
@@ -184,17 +186,11 @@ impl Terminal {
         ensures { self.new ≡ calls.ended signal.now self.old }
     {
         self.leave_call();
-        self.signal(signal);
+        self.output.signal(signal, &self.settings.params);
         if self.mode.is_data_transfer() {
             self.output.prompt(&self.settings.params);
         }
         self.mode = Mode::Free;
-    }
-
-    fn signal(&mut self, signal: &Signal)
-        ensures { self.new ≡ calls.signalled signal.now self.old }
-    {
-        self.output.signal(signal, &self.settings.params);
     }
 
     /// Whether DC3 stopped the output and it may not yet go on (X.3 3.5).
@@ -210,7 +206,7 @@ impl Terminal {
         ensures { self.new ≡ calls.resumed queue_full self.old }
     {
         if self.device_stopped && (!self.mode.has_call() || !queue_full) {
-            self.output.write(&[DEVICE_CONTROL_ONE]);
+            self.output.text.push_back(DEVICE_CONTROL_ONE);
             self.device_stopped = false;
         }
     }
@@ -221,7 +217,7 @@ impl Terminal {
     pub fn has_text(&self) -> bool
         ensures { result ≡ not (length self.now.output.text == 0) }
     {
-        self.output.has_text()
+        !self.output.text.is_empty()
     }
 
     /// Takes the text that waits to be shown, at most 1,024 octets, and adds it to `out`.
@@ -231,7 +227,10 @@ impl Terminal {
         ensures text { out.new.items ≡ out.old.items ++ self.old.output.text }
         ensures room { array_vec_len out.new ≤ array_vec_len out.old + TEXT_LIMIT }
     {
-        self.output.take(out);
+        let (first, second) = self.output.text.as_slices();
+        let _ = out.try_extend_from_slice(first);
+        let _ = out.try_extend_from_slice(second);
+        self.output.text.clear();
     }
 
     /// Shows user octets of the far end: adds them to `out` as they are laid out for the terminal, or nothing if output
@@ -243,6 +242,9 @@ impl Terminal {
             ++ (output.laid_out octets.now self.old.settings.params self.old.output.column).text }
         ensures room { array_vec_len out.new ≤ array_vec_len out.old + OCTET_LIMIT * length octets.now }
     {
-        self.output.lay_out(octets, &self.settings.params, out);
+        let params = &self.settings.params;
+        if !params.discards_output() {
+            self.output.column = Display::text(octets, false, params, self.output.column, out);
+        }
     }
 }

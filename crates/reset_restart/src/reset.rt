@@ -66,27 +66,20 @@ impl ResetState {
 
     /// The step of the state table for an event. The table has a row for the role, the state and the event (X.25
     /// Annex C, table C-4).
+    #[tactic(auto, using(crate::proofs::ResetRows::kept_at))]
     pub fn step(role: Role, state: ResetState, event: ResetEvent) -> ResetStep
         requires { IsSome (reset_step role state event) }
         ensures row { reset_step role state event ≡ Some result }
         // The state that the other end begins is never entered.
         ensures kept { IsSome (end_state_of role result.state) }
     {
-        met(role, state, event)
-    }
-}
-
-/// The step of the row that the event meets.
-fn met(role: Role, state: ResetState, event: ResetEvent) -> ResetStep
-    requires { IsSome (reset_step role state event) }
-    ensures { reset_step role state event ≡ Some result }
-{
-    match (role, state) {
-        (_, ResetState::FlowControlReady) => in_flow_control_ready(role, event),
-        (Role::Dte, ResetState::DteReset) | (Role::Dce, ResetState::DceReset) => {
-            in_own_reset(role, event)
+        match (role, state) {
+            (_, ResetState::FlowControlReady) => in_flow_control_ready(role, event),
+            (Role::Dte, ResetState::DteReset) | (Role::Dce, ResetState::DceReset) => {
+                in_own_reset(role, event)
+            }
+            (Role::Dte, ResetState::DceReset) | (Role::Dce, ResetState::DteReset) => unreachable!(),
         }
-        (Role::Dte, ResetState::DceReset) | (Role::Dce, ResetState::DteReset) => unreachable!(),
     }
 }
 

@@ -55,28 +55,21 @@ impl RestartState {
 
     /// The step of the state table for a received packet of the type. The table has a row for the role, the state and
     /// the type (X.25 Annex C, table C-2).
+    #[tactic(auto, using(crate::proofs::RestartRows::kept_at))]
     pub fn step(role: Role, state: RestartState, event: PacketType) -> RestartStep
         requires { IsSome (restart_step role state event) }
         ensures row { restart_step role state event ≡ Some result }
         // The state that the other end begins is never entered.
         ensures kept { IsSome (end_state_of role result.state) }
     {
-        met(role, state, event)
-    }
-}
-
-/// The step of the row that the event meets.
-fn met(role: Role, state: RestartState, event: PacketType) -> RestartStep
-    requires { IsSome (restart_step role state event) }
-    ensures { restart_step role state event ≡ Some result }
-{
-    match (role, state) {
-        (_, RestartState::PacketLayerReady) => in_packet_layer_ready(role, event),
-        (Role::Dte, RestartState::DteRestart) | (Role::Dce, RestartState::DceRestart) => {
-            in_own_restart(role, event)
-        }
-        (Role::Dte, RestartState::DceRestart) | (Role::Dce, RestartState::DteRestart) => {
-            unreachable!()
+        match (role, state) {
+            (_, RestartState::PacketLayerReady) => in_packet_layer_ready(role, event),
+            (Role::Dte, RestartState::DteRestart) | (Role::Dce, RestartState::DceRestart) => {
+                in_own_restart(role, event)
+            }
+            (Role::Dte, RestartState::DceRestart) | (Role::Dce, RestartState::DteRestart) => {
+                unreachable!()
+            }
         }
     }
 }

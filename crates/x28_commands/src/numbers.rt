@@ -25,16 +25,33 @@ pub trait Entry: Copy + Default {
 impl Entry for u8 {
     ghost said = { number_of };
 
+    /// The number that a text says: 1 to 3 digits, at most 255. `None` for any other text.
+    #[tactic(auto, unfolding(crate::specs::Numbers::number_of))]
     fn read(text: &[u8]) -> Option<u8> {
-        number_of(text)
+        if text.is_empty() || text.len() > 3 {
+            return None;
+        }
+        if !are_digits(text) {
+            return None;
+        }
+        let value = decimal(text);
+        if value > 255 {
+            return None;
+        }
+        Some(value as u8)
     }
 }
 
 impl Entry for (u8, u8) {
     ghost said = { pair_of };
 
+    /// The pair that a text says: two numbers with a colon between them.
+    #[tactic(auto, unfolding(crate::specs::Numbers::pair_of))]
     fn read(text: &[u8]) -> Option<(u8, u8)> {
-        pair_of(text)
+        let colon = place_of(text, b':')?;
+        let number = u8::read(&text[..colon])?;
+        let value = u8::read(&text[colon + 1..])?;
+        Some((number, value))
     }
 }
 
@@ -75,35 +92,6 @@ fn place_of(text: &[u8], octet: u8) -> Option<usize>
     ensures within { IfSome result (λ place. place < length text.now) }
 {
     text.iter().position(|other| *other == octet)
-}
-
-/// The pair that a text says: two numbers with a colon between them.
-#[tactic(auto, unfolding(crate::specs::Numbers::pair_of))]
-fn pair_of(text: &[u8]) -> Option<(u8, u8)>
-    ensures { result ≡ pair_of text.now }
-{
-    let colon = place_of(text, b':')?;
-    let number = number_of(&text[..colon])?;
-    let value = number_of(&text[colon + 1..])?;
-    Some((number, value))
-}
-
-/// The number that a text says: 1 to 3 digits, at most 255. `None` for any other text.
-#[tactic(auto, unfolding(crate::specs::Numbers::number_of))]
-pub fn number_of(text: &[u8]) -> Option<u8>
-    ensures { result ≡ number_of text.now }
-{
-    if text.is_empty() || text.len() > 3 {
-        return None;
-    }
-    if !are_digits(text) {
-        return None;
-    }
-    let value = decimal(text);
-    if value > 255 {
-        return None;
-    }
-    Some(value as u8)
 }
 
 /// What at most three digits are worth.

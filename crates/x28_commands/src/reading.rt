@@ -4,13 +4,13 @@ ghost use Rattle.std.specs.Prelude.{◌≡◌, ◌<◌, ◌≤◌, length, IfOk}
 ghost use Rattle.x28_commands.specs.declared.command.Command.{Command};
 ghost use Rattle.x28_commands.specs.CommandForm.{CommandForm};
 ghost use Rattle.x28_commands.specs.Faults.{fault_in, first_fault};
-ghost use Rattle.x28_commands.specs.Reading.{command_of, command_from, number_in, numbers_in, pairs_in};
+ghost use Rattle.x28_commands.specs.Reading.{command_of, command_in, command_from, number_in, numbers_in, pairs_in};
 ghost use Rattle.x28_commands.specs.Reading as spec;
 
 use crate::command::{Command, ENTRY_LIMIT};
 use crate::fault::CommandFault;
 use crate::keyword::{Keyword, split_keyword};
-use crate::numbers::{TEXT_LIMIT, entries, number_of};
+use crate::numbers::{Entry, TEXT_LIMIT, entries};
 use crate::selection::read_selection;
 use crate::words::{after_spaces, trimmed};
 use arrayvec::ArrayVec;
@@ -37,17 +37,17 @@ pub fn read_command(line: &[u8]) -> Result<Command, CommandFault>
     // The fault is the first in number that the line has.
     ensures fault { fault_in result ≡ first_fault line.now }
 {
-    command_in(line)
-}
-
-#[tactic(auto, unfolding(crate::specs::Reading::command_of))]
-fn command_in(line: &[u8]) -> Result<Command, CommandFault>
-    ensures { result ≡ command_of line.now }
-{
     if line.len() > LINE_LIMIT {
         return Err(CommandFault::TooLong);
     }
-    let text = after_spaces(line);
+    command_in(after_spaces(line))
+}
+
+/// The command of a text without leading spaces.
+fn command_in(text: &[u8]) -> Result<Command, CommandFault>
+    requires { length text.now < TEXT_LIMIT }
+    ensures { result ≡ command_in text.now }
+{
     if text.is_empty() {
         return Ok(Command::Empty);
     }
@@ -90,7 +90,7 @@ fn alone(command: Command, text: &[u8]) -> Result<Command, CommandFault>
 fn number_in(text: &[u8]) -> Result<u8, CommandFault>
     ensures { result ≡ number_in text.now }
 {
-    match number_of(text) {
+    match u8::read(text) {
         Some(number) => Ok(number),
         None => Err(CommandFault::BadNumber),
     }

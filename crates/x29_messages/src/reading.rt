@@ -3,7 +3,7 @@
 ghost use Rattle.std.specs.Prelude.{◌≡◌, ◌<◌, ◌∷◌, length, MatchOption, IfOk};
 ghost use Rattle.x29_messages.specs.declared.message.Message.{Message};
 ghost use Rattle.x29_messages.specs.MessageForm.{MessageForm};
-ghost use Rattle.x29_messages.specs.Reading.{error_in, fault_in, first_fault, message_of, pairs_in};
+ghost use Rattle.x29_messages.specs.Reading.{error_in, fault_in, first_fault, message_in, message_of, pairs_in};
 
 use crate::fault::MessageFault;
 use crate::message::{Message, Pairs};
@@ -25,16 +25,16 @@ pub fn read_message(octets: &[u8]) -> Result<Message, MessageFault>
     // The fault is the first in number that the octets have.
     ensures fault { fault_in result ≡ first_fault octets.now }
 {
-    message_of(octets)
+    match octets {
+        [] => Err(MessageFault::Empty),
+        [code, rest @ ..] => message_in(*code, rest),
+    }
 }
 
-#[tactic(auto, unfolding(crate::specs::Reading::message_of))]
-fn message_of(octets: &[u8]) -> Result<Message, MessageFault>
-    ensures { result ≡ message_of octets.now }
+/// The message of a code, by the octets that follow the code.
+fn message_in(code: u8, rest: &[u8]) -> Result<Message, MessageFault>
+    ensures { result ≡ message_in code rest.now }
 {
-    let [code, rest @ ..] = octets else {
-        return Err(MessageFault::Empty);
-    };
     match code {
         0 => Ok(Message::ParameterIndication(pairs_in(rest)?)),
         1 => {

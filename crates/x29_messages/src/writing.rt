@@ -15,15 +15,17 @@ pub fn write_message(message: &Message, out: &mut MessageBuf)
     // What is written reads back.
     ensures back { message_of out.new.items ≡ Ok message.now }
 {
+    out.clear();
     write(message, out);
 }
 
+/// Writes the octets of a message.
 #[tactic(auto, unfolding(crate::specs::MessageForm::octets_of))]
 fn write(message: &Message, out: &mut MessageBuf)
+    requires { array_vec_len out.old ≡ 0 }
     ensures octets { out.new.items ≡ octets_of message.now }
     ensures form { MessageForm out.new.items message.now }
 {
-    out.clear();
     match message {
         Message::ParameterIndication(pairs) => write_pairs(0, pairs, out),
         Message::InvitationToClear => out.push(1),

@@ -84,7 +84,7 @@ impl Link {
             → packet ≡ drop 2 bytes.now }
     {
         self.take_octets(bytes, out);
-        self.give_back(pool);
+        self.queue.give_back(pool);
     }
 
     /// Takes an expiry of T1 (X.25 2.4.8.1). If T1 does not run, nothing happens.
@@ -118,17 +118,6 @@ impl Link {
         } }
     {
         out.set_timer(ran, self.runs(), anew);
-        self.give_back(pool);
-    }
-
-    /// The buffers of the packets that a rule gave up go back.
-    #[inline]
-    fn give_back(&mut self, pool: &mut Pool)
-        requires { Holds pool.old self.old.held }
-        ensures link { self.new.link ≡ self.old.link }
-        ensures pool { Balances pool.old self.old.held pool.new self.new.held }
-        ensures tight { length self.new.held ≡ length self.new.link.queue }
-    {
         self.queue.give_back(pool);
     }
 

@@ -71,7 +71,7 @@ impl Terminal {
             self.mode = Mode::DataTransfer;
         }
         if let Some(signal) = &answer {
-            self.signal(signal);
+            self.output.signal(signal, &self.settings.params);
         }
     }
 

@@ -140,7 +140,7 @@ impl Terminal {
         ensures { self.new ≡ spec.told_to_stop self.old }
     {
         if self.settings.params.has_device_control() && !self.device_stopped {
-            self.output.write(&[DEVICE_CONTROL_THREE]);
+            self.output.text.push_back(DEVICE_CONTROL_THREE);
             self.device_stopped = true;
         }
     }

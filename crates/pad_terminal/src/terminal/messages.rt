@@ -76,7 +76,8 @@ impl Terminal {
         ensures report { result.items ≡ (spec.after_message_pairs pairs.now.items self.old.settings).report }
     {
         if pairs.is_empty() {
-            self.settings.set_initial();
+            let initial = self.settings.initial;
+            self.settings.put(initial);
             return Report::new();
         }
         self.settings.set_all(numbered(pairs).as_slice())

@@ -1,5 +1,7 @@
-use Rattle.reset_restart.proofs.ResetRows.{reset_step-kept}
+use Rattle.reset_restart.specs.Reset.EndState.{Ready}
+use Rattle.reset_restart.proofs.ResetRows.{kept_at}
 use Rattle.reset_restart.proofs.reset.ResetState.step.Goals as goal
 
-pub returns-clause-kept : goal.returns-clause-kept
-returns-clause-kept c = reset_step-kept c.args.role c.args.state c.args.event c.met.result c.met.ensures
+pub returns-in_default-FlowControlReady-clause-kept : goal.returns-in_default-FlowControlReady-clause-kept
+returns-in_default-FlowControlReady-clause-kept c =
+    kept_at c.args.role Ready c.args.event c.in_flow_control_ready.result c.in_flow_control_ready.ensures
