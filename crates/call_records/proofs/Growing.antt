@@ -1,9 +1,8 @@
 -- A change of one of the code's records: as the records show it, and the room that it leaves.
-use Rattle.std.proofs.Common.{◌≡◌, ℕ, zero, suc, ◌<◌, ◌≤◌, List, [], ◌∷◌, map, set, length, get_or, refl, sym, ap, subst, ◌∙◌, inl, inr, arith}
+use Rattle.std.proofs.Common.{◌≡◌, ℕ, zero, suc, ◌<◌, ◌≤◌, List, [], ◌∷◌, ◌++◌, map, set, length, get_or, refl, sym, ap, subst, ◌∙◌, inl, inr, arith}
 use Rattle.std.specs.Prelude.{◌⊎◌, Some, slice_get}
-use Rattle.epochs.specs.Passed.{PassedState, HasSpare}
 use Rattle.call_records.specs.Records.{RecordValue, changed_at}
-use Rattle.call_records.specs.RecordView.{shown, HasPlaces, PlacesAt, left}
+use Rattle.call_records.specs.RecordView.{shown, PlacesAt, IsCounted, AreCounted, left}
 use Rattle.call_records.specs.declared.record.Record.{Record}
 use Rattle.call_records.specs.declared.record.Growth.{Growth}
 use Rattle.call_records.specs.declared.record.Growth.TheVariants as growth
@@ -52,22 +51,8 @@ none_at (y ∷ ys) (suc i) x h e = none_at ys i x (omega arith) e
 
 -- ---- room
 
-fewer_spare : (k j : ℕ) (p : PassedState) → j ≤ k → HasSpare k p → HasSpare j p
-fewer_spare k j p h has = record {
-  octets = omega (arith, has.octets);
-  interrupts = omega (arith, has.interrupts);
-  ends = omega (arith, has.ends);
-}
-
-fewer : (k j : ℕ) (r : Record) → j ≤ k → HasPlaces k r → HasPlaces j r
-fewer k j r h p = record {
-  sent = fewer_spare k j r.sent h p.sent;
-  taken = fewer_spare k j r.taken h p.taken;
-  steps = omega (arith, p.steps);
-}
-
 pub fewer_at : (k j m : ℕ) (rs : List Record) → j ≤ k → PlacesAt k m rs → PlacesAt j m rs
-fewer_at k j m rs h p r e = fewer k j r h (p r e)
+fewer_at k j m rs h p r e = omega (arith, h, p r e)
 
 pub left_less : (g : Growth) (k : ℕ) → left g k ≤ k
 left_less (growth.Sent packet) k = omega arith
@@ -91,29 +76,57 @@ left_in_order (growth.Step step) j k h = omega arith
 left_in_order growth.Epoch j k h = omega arith
 left_in_order growth.Closed j k h = h
 
--- what is written back has the places, and so have the others
-pub places_set : (k m n : ℕ) (rs : List Record) (new : Record) → HasPlaces k new → PlacesAt k m rs → PlacesAt k m (set rs n new)
+-- what is written back counts so many places, and so do the others
+pub places_set : (k m n : ℕ) (rs : List Record) (new : Record) → k ≤ new.places → PlacesAt k m rs → PlacesAt k m (set rs n new)
 places_set k m n rs new h p r e = elim (get_set rs n new m r e) [
-  | inl same ↦ let P : Record → Type 0 = λ x. HasPlaces k x in subst P same h
+  | inl same ↦ let P : Record → Type 0 = λ x. k ≤ x.places in subst P same h
   | inr there ↦ p r there
 ]
 
-pub places_here : (k n : ℕ) (rs : List Record) (new : Record) → HasPlaces k new → PlacesAt k n (set rs n new)
-places_here k n rs new h r e = let P : Record → Type 0 = λ x. HasPlaces k x in subst P (get_set_here rs n new r e) h
+pub places_here : (k n : ℕ) (rs : List Record) (new : Record) → k ≤ new.places → PlacesAt k n (set rs n new)
+places_here k n rs new h r e = let P : Record → Type 0 = λ x. k ≤ x.places in subst P (get_set_here rs n new r e) h
 
 -- as a growth changes a record
-pub grown_places : (g : Growth) (k m n : ℕ) (rs : List Record) (old new : Record) → slice_get rs n ≡ Some old
-    → ((room : ℕ) → HasPlaces room old → HasPlaces (left g room) new) → PlacesAt k n rs → PlacesAt k m rs → PlacesAt (left g k) m (set rs n new)
-grown_places g k m n rs old new there grows here at = places_set (left g k) m n rs new (grows k (here old there)) (fewer_at k (left g k) m rs (left_less g k) at)
+pub grown_places : (g : Growth) (k m n : ℕ) (rs : List Record) (old new : Record) → slice_get rs n ≡ Some old → new.places ≡ left g old.places
+    → PlacesAt k n rs → PlacesAt k m rs → PlacesAt (left g k) m (set rs n new)
+grown_places g k m n rs old new there grows here at =
+    let enough : left g k ≤ new.places = subst (λ (p : ℕ). left g k ≤ p) (sym grows) (left_in_order g k old.places (here old there)) in
+    places_set (left g k) m n rs new enough (fewer_at k (left g k) m rs (left_less g k) at)
 
--- where a change of a record leaves its places, all records keep theirs
-pub places_kept : (k m n : ℕ) (rs : List Record) (old new : Record) → slice_get rs n ≡ Some old → (HasPlaces k old → HasPlaces k new) → PlacesAt k m rs → PlacesAt k m (set rs n new)
+-- where a change of a record leaves what it counts, all records count what they did
+pub places_kept : (k m n : ℕ) (rs : List Record) (old new : Record) → slice_get rs n ≡ Some old → new.places ≡ old.places → PlacesAt k m rs → PlacesAt k m (set rs n new)
 places_kept k m n [] old new there keeps at r e = at r e
 places_kept k zero zero (z ∷ rs) old new there keeps at r e =
     let same : old ≡ z = cc in
     let is : new ≡ r = cc in
-    let P : Record → Type 0 = λ x. HasPlaces k x in
-    subst P is (keeps (subst P (sym same) (at z refl)))
+    let P : Record → Type 0 = λ x. k ≤ x.places in
+    let before : k ≤ old.places = subst P (sym same) (at z refl) in
+    let after : k ≤ new.places = subst (λ (p : ℕ). k ≤ p) (sym keeps) before in
+    subst P is after
 places_kept k (suc m) zero (z ∷ rs) old new there keeps at r e = at r e
 places_kept k zero (suc n) (z ∷ rs) old new there keeps at r e = at r e
 places_kept k (suc m) (suc n) (z ∷ rs) old new there keeps at r e = places_kept k m n rs old new there keeps at r e
+
+-- ---- records with the places that they count
+
+pub counted_set : (n : ℕ) (rs : List Record) (new : Record) → IsCounted new → AreCounted rs → AreCounted (set rs n new)
+counted_set n rs new h p m r e = elim (get_set rs n new m r e) [
+  | inl same ↦ subst IsCounted same h
+  | inr there ↦ p m r there
+]
+
+last_or_before : {X : Type 0} (xs : List X) (x : X) (n : ℕ) (y : X) → slice_get (xs ++ x ∷ []) n ≡ Some y → (x ≡ y) ⊎ (slice_get xs n ≡ Some y)
+last_or_before [] x zero y e = inl (cc)
+last_or_before [] x (suc n) y e = absurd (cc)
+last_or_before (z ∷ xs) x zero y e = inr e
+last_or_before (z ∷ xs) x (suc n) y e = last_or_before xs x n y e
+
+pub counted_more : (rs more : List Record) (new : Record) → more ≡ rs ++ new ∷ [] → IsCounted new → AreCounted rs → AreCounted more
+counted_more rs more new is h p m r e = elim (last_or_before rs new m r (subst (λ (l : List Record). slice_get l m ≡ Some r) is e)) [
+  | inl same ↦ subst IsCounted same h
+  | inr there ↦ p m r there
+]
+
+pub none_counted : (rs : List Record) → rs ≡ [] → AreCounted rs
+none_counted [] is m r e = absurd (cc)
+none_counted (x ∷ rs) is m r e = absurd (cc)

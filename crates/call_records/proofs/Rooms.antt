@@ -31,7 +31,7 @@ no_places k slots (r ∷ rs) e = absurd (omega arith)
 same_number : (m n : ℕ) → Some m ≡ Some n → m ≡ n
 same_number m n e = cc
 
-fewer_calls : (k j : ℕ) (slots : List Slot) (rs : List Record) → j ≤ k → CallsHavePlaces k slots rs → CallsHavePlaces j slots rs
+pub fewer_calls : (k j : ℕ) (slots : List Slot) (rs : List Record) → j ≤ k → CallsHavePlaces k slots rs → CallsHavePlaces j slots rs
 fewer_calls k j slots rs h p channel number e = fewer_at k j number rs h (p channel number e)
 
 pub fewer_places : (a : Inside) (room k : ℕ) → room ≤ k → k ≤ a.places → HasRoom a →
@@ -43,6 +43,7 @@ fewer_places a room k less h p = record {
   pair_room = p.pair_room;
   most_records = p.most_records;
   most_pairs = p.most_pairs;
+  counted = p.counted;
   dte = fewer_calls a.places k a.ends.dte.slots a.records.items h p.dte;
   dce = fewer_calls a.places k a.ends.dce.slots a.records.items h p.dce;
 }
@@ -75,6 +76,7 @@ put_room a ends Dte channel slot e none p = record {
   pair_room = p.pair_room;
   most_records = p.most_records;
   most_pairs = p.most_pairs;
+  counted = p.counted;
   dte = put_places a.places channel ends.dte.slots a.ends.dte.slots slot a.records.items (ap (λ (b : Book). b.dte.slots) e) none p.dte;
   dce = same_places a.places ends.dce.slots a.ends.dce.slots a.records.items (ap (λ (b : Book). b.dce.slots) e) p.dce;
 }
@@ -85,6 +87,7 @@ put_room a ends Dce channel slot e none p = record {
   pair_room = p.pair_room;
   most_records = p.most_records;
   most_pairs = p.most_pairs;
+  counted = p.counted;
   dte = same_places a.places ends.dte.slots a.ends.dte.slots a.records.items (ap (λ (b : Book). b.dte.slots) e) p.dte;
   dce = put_places a.places channel ends.dce.slots a.ends.dce.slots slot a.records.items (ap (λ (b : Book). b.dce.slots) e) none p.dce;
 }

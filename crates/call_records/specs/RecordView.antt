@@ -53,9 +53,17 @@ pub record HasPlaces (room : ℕ) (r : Record) : Type 0 where
   pub taken : HasSpare room r.taken
   pub steps : room ≤ vec_capacity r.steps - vec_len r.steps
 
--- the record of this number has them, if there is one
+-- and as many as the record counts
+abbrev pub IsCounted : Record → Type 0
+IsCounted r = HasPlaces r.places r
+
+-- each of these records has
+abbrev pub AreCounted : List Record → Type 0
+AreCounted records = (number : ℕ) (r : Record) → slice_get records number ≡ Some r → IsCounted r
+
+-- the record of this number counts so many, if there is one
 abbrev pub PlacesAt : (room number : ℕ) → List Record → Type 0
-PlacesAt room number records = (r : Record) → slice_get records number ≡ Some r → HasPlaces room r
+PlacesAt room number records = (r : Record) → slice_get records number ≡ Some r → room ≤ r.places
 
 -- no list of a record has spare places
 pub record HasNoPlaces (r : Record) : Type 0 where

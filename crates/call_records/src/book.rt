@@ -14,7 +14,8 @@ ghost use Rattle.call_records.specs.Records.{changed_at, with_taken, with_interr
 ghost use Rattle.call_records.specs.Closing.{all_closed};
 ghost use Rattle.call_records.specs.Room.{opens, room_after, taken_room};
 ghost use Rattle.call_records.specs.BookView.{CallsHavePlaces};
-ghost use Rattle.call_records.specs.RecordView.{shown, pair_of, step_of, grown, needed, left, Fits, PlacesAt, NoPlacesAt, hop_of};
+ghost use Rattle.call_records.specs.RecordView.{shown, pair_of, step_of, grown, needed, left, Fits};
+ghost use Rattle.call_records.specs.RecordView.{PlacesAt, NoPlacesAt, AreCounted, hop_of};
 
 use crate::ends::{Ends, Side, Slot};
 use crate::record::{EditStep, Growth, Hop, Pair, Record};
@@ -25,8 +26,8 @@ use packet_layer::{Front, LayerNote};
 use std::alloc::{AllocError, Global};
 use std::marker::Model;
 
-/// How many places more than it is asked for `reserve` makes in each list, so that it need not look at all records of
-/// present calls again before they are used up.
+/// How many places more than it is asked for `reserve` makes in each list, so that it need not look at it again before
+/// they are used up.
 const AHEAD: usize = 24;
 
 /// How many places the lists of records and of pairs have at least: enough for 16 writes in an empty book.
@@ -146,8 +147,8 @@ impl Book {
         self.reserve_anew(count)
     }
 
-    /// Makes room for so many writes where it is not known to be there: looks at all lists, and lets the records of calls
-    /// that are over give back their spare room.
+    /// Makes room for so many writes where it is not known to be there: asks the record of each present call, and lets
+    /// those of calls that are over give back their spare room.
     #[inline(never)]
     fn reserve_anew(&mut self, count: usize) -> Result<(), AllocError>
         ensures same { self.new.book ≡ self.old.book }
@@ -188,7 +189,8 @@ impl Book {
         self.over.clear();
     }
 
-    /// Exchanges the ends of its line for those of another one. There is no room then.
+    /// Exchanges the ends of its line for those of another one. There is no room then, but the records of the present
+    /// calls may have places.
     pub(crate) fn exchange_ends(&mut self, ends: &mut Ends)
         ensures book { self.new ≡ record {
           book = record self.old.book { dte = ends.old.dte; dce = ends.old.dce };
@@ -199,7 +201,9 @@ impl Book {
     {
         self.room = 0;
         self.pair_room = 0;
-        self.places = 0;
+        self.places = self
+            .places
+            .min(known_places(&self.records, ends, &self.over));
         std::mem::swap(&mut self.ends, ends);
     }
 
@@ -531,12 +535,14 @@ fn recorded(address: &Address) -> Option<Address>
 #[inline(always)]
 fn grow_at(records: &mut Vec<Record>, number: usize, growth: Growth<'_>)
     requires places { PlacesAt (needed growth) number records.old.items }
+    requires counted { AreCounted records.old.items }
     requires fits { Fits growth }
     ensures shown { map shown records.new.items ≡ changed_at number (grown growth.entry) (map shown records.old.items) }
     ensures len { vec_len records.new ≡ vec_len records.old }
     ensures capacity { vec_capacity records.new ≡ vec_capacity records.old }
     ensures room { (room other : ℕ) → PlacesAt room number records.old.items → PlacesAt room other records.old.items →
         PlacesAt (left growth.entry room) other records.new.items }
+    ensures counted { AreCounted records.new.items }
 {
     if number < records.len() {
         let record = &mut records[number];
@@ -551,6 +557,7 @@ fn go_on_at(records: &mut Vec<Record>, number: usize, hop: Hop)
     ensures len { vec_len records.new ≡ vec_len records.old }
     ensures capacity { vec_capacity records.new ≡ vec_capacity records.old }
     ensures room { (room other : ℕ) → PlacesAt room other records.old.items → PlacesAt room other records.new.items }
+    ensures counted { AreCounted records.old.items → AreCounted records.new.items }
 {
     if number < records.len() {
         let record = &mut records[number];
@@ -566,6 +573,7 @@ fn reserve_at(records: &mut Vec<Record>, number: usize, count: usize) -> Result<
     ensures kept { OnOk result ((other : ℕ) → PlacesAt count other records.old.items →
         PlacesAt count other records.new.items) }
     ensures ok { OnOk result (PlacesAt count number records.new.items) }
+    ensures counted { AreCounted records.old.items → AreCounted records.new.items }
 {
     if number < records.len() {
         let record = &mut records[number];
@@ -582,6 +590,7 @@ fn reserve_present(records: &mut Vec<Record>, side: &Side, count: usize) -> Resu
     ensures kept { OnOk result ((other : ℕ) → PlacesAt count other records.old.items →
         PlacesAt count other records.new.items) }
     ensures ok { OnOk result (CallsHavePlaces count side.now.slots records.new.items) }
+    ensures counted { AreCounted records.old.items → AreCounted records.new.items }
 {
     for place in 0..side.channels() {
         if let Some(number) = side.slot(place + 1).present {
@@ -589,6 +598,18 @@ fn reserve_present(records: &mut Vec<Record>, side: &Side, count: usize) -> Resu
         }
     }
     Ok(())
+}
+
+/// How many places the records of the present calls of both ends count, if all of these calls can be listed as they end.
+fn known_places(records: &[Record], ends: &Ends, over: &Vec<usize>) -> usize
+    ensures dte { CallsHavePlaces result ends.now.dte.slots records.now }
+    ensures dce { CallsHavePlaces result ends.now.dce.slots records.now }
+{
+    if ends.channels() <= over.capacity() {
+        ends.least_places(records)
+    } else {
+        0
+    }
 }
 
 /// Makes room in the records of the present calls of both ends. The records of calls that are over give back their spare
@@ -604,6 +625,7 @@ fn reserve_in_records(
     ensures same { map shown records.new.items ≡ map shown records.old.items }
     ensures len { vec_len records.new ≡ vec_len records.old }
     ensures capacity { vec_capacity records.new ≡ vec_capacity records.old }
+    ensures counted { AreCounted records.old.items → AreCounted records.new.items }
     ensures dte { OnOk result (CallsHavePlaces count ends.now.dte.slots records.new.items) }
     ensures dce { OnOk result (CallsHavePlaces count ends.now.dce.slots records.new.items) }
     ensures ready { vec_len records.old ≡ 0 → IsOk result }
@@ -630,6 +652,7 @@ fn drop_spare(
     ensures len { vec_len records.new ≡ vec_len records.old }
     ensures capacity { vec_capacity records.new ≡ vec_capacity records.old }
     ensures fits { OnOk result (NoPlacesAt numbers.now records.new.items) }
+    ensures counted { AreCounted records.old.items → AreCounted records.new.items }
 {
     for number in numbers {
         drop_spare_at(alloc, records, *number, spare)?;
@@ -637,7 +660,7 @@ fn drop_spare(
     Ok(())
 }
 
-/// So does the record of this number, if there is one.
+/// The record of this number, if there is one, gives back its spare room.
 fn drop_spare_at(
     alloc: Global,
     records: &mut Vec<Record>,
@@ -650,6 +673,7 @@ fn drop_spare_at(
     ensures kept { OnOk result ((numbers : List ℕ) → NoPlacesAt numbers records.old.items →
         NoPlacesAt numbers records.new.items) }
     ensures fits { OnOk result (NoPlacesAt (number ∷ []) records.new.items) }
+    ensures counted { AreCounted records.old.items → AreCounted records.new.items }
 {
     if number < records.len() {
         let record = &mut records[number];

@@ -3,9 +3,11 @@ ghost use Rattle.std.specs.Prelude.{◌≡◌, ◌≤◌, List, [], IfOk, Some, 
 ghost use Rattle.call_records.specs.Records.{RecordValue, PairValue};
 ghost use Rattle.packet_codec.specs.Digits.{digits_or_none};
 ghost use Rattle.call_records.specs.Book.{address_of, free_slot, nth_slot, with_nth, side_of, with_slot};
-ghost use Rattle.call_records.specs.BookView.{book_with};
+ghost use Rattle.call_records.specs.BookView.{book_with, CallsHavePlaces};
+ghost use Rattle.call_records.specs.RecordView.{PlacesAt};
 ghost use Rattle.call_records.specs.Register.{holds};
 
+use crate::record::Record;
 use link_timers::Role;
 use packet_codec::Address;
 use std::alloc::{AllocError, Global};
@@ -125,6 +127,20 @@ impl Side {
         }
     }
 
+    /// How many places the records of the present calls count at least.
+    pub(crate) fn least_places(&self, records: &[Record]) -> usize
+        ensures { CallsHavePlaces result self.now.slots records.now }
+    {
+        let slots = self.slots.as_slice();
+        let mut least = usize::MAX;
+        for slot in slots {
+            if let Some(number) = slot.present {
+                least = least.min(places_at(records, number));
+            }
+        }
+        least
+    }
+
     /// Keeps something of a channel, if the line has it.
     pub(crate) fn put(&mut self, channel: u8, slot: Slot)
         ensures { self.new ≡ record self.old { slots = with_nth self.old.slots channel slot } }
@@ -148,6 +164,16 @@ impl Side {
             ..self.slot(channel)
         };
         self.put(channel, slot);
+    }
+}
+
+/// How many places the record of this number counts, if there is one.
+fn places_at(records: &[Record], number: usize) -> usize
+    ensures { PlacesAt result number records.now }
+{
+    match records.get(number) {
+        Some(record) => record.places,
+        None => usize::MAX,
     }
 }
 
@@ -188,6 +214,16 @@ impl Ends {
             Role::Dte => &self.dte,
             Role::Dce => &self.dce,
         }
+    }
+
+    /// How many places the records of the present calls of both ends count at least.
+    pub(crate) fn least_places(&self, records: &[Record]) -> usize
+        ensures dte { CallsHavePlaces result self.now.dte.slots records.now }
+        ensures dce { CallsHavePlaces result self.now.dce.slots records.now }
+    {
+        self.dte
+            .least_places(records)
+            .min(self.dce.least_places(records))
     }
 
     /// How many channels the two ends have together.

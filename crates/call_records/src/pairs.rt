@@ -1,7 +1,5 @@
 //! Whether in each call what each end took matches what the other one sent.
 ghost use Rattle.std.specs.Prelude.{◌↔◌, IsTrue, map};
-ghost use Rattle.epochs.specs.Match.{Match};
-ghost use Rattle.call_records.specs.Records.{taken_epochs, sent_epochs};
 ghost use Rattle.call_records.specs.RecordView.{shown, pair_of};
 ghost use Rattle.call_records.specs.Pairs.{PairMatches, AllMatch};
 
@@ -25,15 +23,8 @@ fn pair_matches(records: &[Record], pair: &Pair) -> bool
     ensures { IsTrue result ↔ PairMatches (map shown records.now) (pair_of pair.now) }
 {
     match (records.get(pair.caller), records.get(pair.callee)) {
-        (Some(caller), Some(callee)) => record_matches(callee, caller)
-            && record_matches(caller, callee),
+        (Some(caller), Some(callee)) => matches(&callee.taken, &caller.sent)
+            && matches(&caller.taken, &callee.sent),
         _ => false,
     }
-}
-
-/// Whether what the end of one record took matches what that of the other sent.
-fn record_matches(taker: &Record, sender: &Record) -> bool
-    ensures { IsTrue result ↔ Match (taken_epochs (shown taker.now)) (sent_epochs (shown sender.now)) }
-{
-    matches(&taker.taken, &sender.sent)
 }

@@ -1,7 +1,7 @@
 //! What a network keeps of each end's part in a call, and which two of these make a call.
 ghost use Rattle.std.specs.Prelude.{◌≡◌, ◌≤◌, ℕ, OnOk};
 ghost use Rattle.call_records.specs.Records.{new_record, with_epoch, with_hop};
-ghost use Rattle.call_records.specs.RecordView.{shown, grown, needed, left, Fits, HasPlaces, HasNoPlaces, hop_of};
+ghost use Rattle.call_records.specs.RecordView.{shown, grown, needed, left, Fits, HasPlaces, HasNoPlaces, IsCounted, hop_of};
 
 use arrayvec::ArrayVec;
 use epochs::{Interrupt, Passed, PassedPacket, drop_spare};
@@ -55,6 +55,8 @@ pub struct Record {
     pub closed: bool,
     /// The steps of editing, at a PAD.
     pub steps: Vec<EditStep>,
+    /// For how many writes every list has room, as far as it is known.
+    pub(crate) places: usize,
 }
 
 /// A call: the numbers of the records of the end that called and of the end that was called.
@@ -114,7 +116,8 @@ impl Record {
         far: Option<Address>,
         caller: Option<usize>,
     ) -> Self
-        ensures { shown result ≡ new_record number node own far caller }
+        ensures shown { shown result ≡ new_record number node own far caller }
+        ensures counted { IsCounted result }
     {
         Record {
             number,
@@ -127,27 +130,38 @@ impl Record {
             taken: Passed::from_spare(alloc, spare),
             closed: false,
             steps: Vec::new(alloc),
+            places: 0,
         }
     }
 
-    /// Makes room in every list.
+    /// Makes room for so many writes in every list, unless it is known to be there.
     pub(crate) fn reserve(&mut self, count: usize) -> Result<(), AllocError>
         ensures same { shown self.new ≡ shown self.old }
-        ensures ok { OnOk result (HasPlaces count self.new) }
+        ensures ok { OnOk result (count ≤ self.new.places) }
+        ensures counted { IsCounted self.old → IsCounted self.new }
     {
+        if count <= self.places {
+            return Ok(());
+        }
+        self.places = 0;
         self.sent.reserve(count)?;
         self.taken.reserve(count)?;
-        self.steps.reserve(count)
+        self.steps.reserve(count)?;
+        self.places = count;
+        Ok(())
     }
 
     /// Grows by a write.
     #[inline(always)]
     pub(crate) fn grow(&mut self, growth: Growth<'_>)
-        requires places { HasPlaces (needed growth) self.old }
+        requires places { needed growth ≤ self.old.places }
+        requires counted { IsCounted self.old }
         requires fits { Fits growth }
         ensures shown { shown self.new ≡ grown growth.entry (shown self.old) }
-        ensures room { (room : ℕ) → HasPlaces room self.old → HasPlaces (left growth.entry room) self.new }
+        ensures places { self.new.places ≡ left growth.entry self.old.places }
+        ensures counted { IsCounted self.new }
     {
+        self.places = growth.left(self.places);
         match growth {
             Growth::Sent(packet) => self.sent.push(packet),
             Growth::InterruptSent(interrupt) => self.sent.push_interrupt(interrupt),
@@ -164,7 +178,8 @@ impl Record {
     /// The call goes on over one more hop, if its path has room for it.
     pub(crate) fn go_on(&mut self, hop: Hop)
         ensures shown { shown self.new ≡ with_hop (hop_of hop) (shown self.old) }
-        ensures room { (room : ℕ) → HasPlaces room self.old → HasPlaces room self.new }
+        ensures places { self.new.places ≡ self.old.places }
+        ensures counted { IsCounted self.old → IsCounted self.new }
     {
         if !self.path.is_full() {
             self.path.push(hop);
@@ -179,7 +194,9 @@ impl Record {
     ) -> Result<(), AllocError>
         ensures same { shown self.new ≡ shown self.old }
         ensures fits { OnOk result (HasNoPlaces self.new) }
+        ensures counted { IsCounted self.new }
     {
+        self.places = 0;
         self.sent.drop_spare(alloc, spare)?;
         self.taken.drop_spare(alloc, spare)?;
         drop_spare(alloc, &mut self.steps)
@@ -188,7 +205,8 @@ impl Record {
     /// Opens an epoch in both directions.
     fn open_epoch(&mut self)
         requires { HasPlaces 1 self.old }
-        ensures { shown self.new ≡ with_epoch (shown self.old) }
+        ensures shown { shown self.new ≡ with_epoch (shown self.old) }
+        ensures places { self.new.places ≡ self.old.places }
     {
         self.sent.end_epoch();
         self.taken.end_epoch();

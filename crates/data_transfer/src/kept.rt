@@ -6,7 +6,7 @@ ghost use Rattle.data_transfer.specs.TakenView.{shown_front};
 ghost use Rattle.data_transfer.specs.Traffic.Taken.{TakenPacket};
 
 use crate::taken::Front;
-use crate::user_data::UserData;
+use crate::user_data::{AnyUserData, UserData};
 use flow_window::pool::{BufNo, Pool};
 use std::marker::Model;
 
@@ -49,13 +49,12 @@ impl KeptPacket {
         }
     }
 
-    /// The octets.
-    pub fn octets<'a>(&self, pool: &'a Pool) -> &'a [u8]
-        requires { IsIn self.now.buffer pool.now }
-        ensures value { result.now ≡ self.now.buffer.octets }
-        ensures fits { length result.now ≤ 1024 }
+    /// The buffer that has the octets.
+    pub fn buffer(&self) -> &BufNo
+        ensures value { result.now ≡ self.now.buffer }
+        ensures fits { length result.now.octets ≤ 1024 }
     {
-        pool.octets(&self.buffer)
+        &self.buffer
     }
 
     /// The M bit: the message goes on in the next packet (X.25 4.3.4).
@@ -85,7 +84,7 @@ impl KeptPacket {
         ensures { result ≡ shown_front (TakenPacket (datum_in self.now)) }
     {
         Front::Data {
-            length: self.octets(pool).len() as u16,
+            length: pool.octets(&self.buffer).len() as u16,
             more: self.more,
             qualified: self.qualified,
             delivery: self.delivery,
@@ -93,7 +92,7 @@ impl KeptPacket {
     }
 
     /// Copies the packet out, and gives its buffer back.
-    pub fn take_out(self, pool: &mut Pool) -> UserData
+    pub fn take_out(self, pool: &mut Pool) -> AnyUserData
         requires { IsIn self.buffer pool.old }
         ensures value { result ≡ datum_in self }
         ensures pool { Balances pool.old (self.buffer ∷ []) pool.new [] }

@@ -17,4 +17,4 @@ pub use heard::Heard;
 pub use kept::KeptPacket;
 pub use taken::{Front, Taken, TakenBuf};
 pub use traffic::{SEND_QUEUE, Traffic};
-pub use user_data::{InterruptData, UserData};
+pub use user_data::{AnyUserData, InterruptData, UserData};

@@ -5,7 +5,7 @@ ghost use Rattle.data_transfer.specs.TakenView.{taken_of, taken_in, buffers_in, 
 ghost use Rattle.data_transfer.specs.TakenView.{HasFewOctets};
 
 use crate::kept::KeptPacket;
-use crate::user_data::{InterruptData, UserData};
+use crate::user_data::{AnyUserData, InterruptData};
 use flow_window::pool::Pool;
 use packet_codec::MAX_USER_DATA;
 
@@ -13,7 +13,7 @@ use packet_codec::MAX_USER_DATA;
 #[derive(Drop)]
 pub enum Taken {
     Interrupt(InterruptData),
-    Data(UserData),
+    Data(AnyUserData),
 }
 
 /// What comes next on a call: an interrupt, or a Data packet in its buffer.
@@ -54,7 +54,7 @@ impl TakenBuf {
                 Front::Interrupt
             }
             TakenBuf::Data(packet) => {
-                copy_into(text, packet.octets(pool));
+                copy_into(text, pool.octets(packet.buffer()));
                 let front = packet.front(pool);
                 packet.give_back(pool);
                 front

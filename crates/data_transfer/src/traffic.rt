@@ -195,18 +195,11 @@ impl Traffic {
               else self.old.traffic;
         } }
     {
-        if usize::from(count) + self.arrived.len() <= usize::from(self.unreleased()) {
+        let unreleased = self.expected.ahead_of(&self.released);
+        if usize::from(count) + self.arrived.len() <= usize::from(unreleased) {
             self.released = self.released.after(count);
             self.untold = self.untold || count > 0;
         }
-    }
-
-    /// How many packets came and are not released.
-    pub(crate) fn unreleased(&self) -> u8
-        ensures value { result ≡ machine.unreleased self.now.traffic }
-        ensures most { result < 128 }
-    {
-        self.expected.ahead_of(&self.released)
     }
 
     /// Owes the confirmation of the interrupt that was taken. Nothing happens if none was.

@@ -5,16 +5,19 @@ use arrayvec::ArrayVec;
 use packet_codec::{MAX_INTERRUPT, MAX_USER_DATA};
 use std::marker::Model;
 
-/// The user data of a Data packet, kept in place: at most 1,024 octets, with the bits M, Q and D (X.25 4.3).
+/// The user data of a Data packet, kept in place: at most `N` octets, with the bits M, Q and D (X.25 4.3).
 #[derive(Drop)]
-pub struct UserData {
-    octets: ArrayVec<u8, MAX_USER_DATA>,
+pub struct UserData<const N: usize> {
+    octets: ArrayVec<u8, N>,
     more: bool,
     qualified: bool,
     delivery: bool,
 }
 
-impl Model for UserData {
+/// The user data of a Data packet of any line: at most 1,024 octets.
+pub type AnyUserData = UserData<MAX_USER_DATA>;
+
+impl<const N: usize> Model for UserData<N> {
     ghost use Rattle.std.specs.Prelude.{◌≤◌, length};
     ghost use Rattle.data_transfer.specs.Packets.{Datum};
 
@@ -27,13 +30,13 @@ impl Model for UserData {
       delivery = d.delivery;
     } };
 
-    ghost invariant = { λ d. length d.octets.items ≤ 1024 };
+    ghost invariant = { λ d. length d.octets.items ≤ N };
 }
 
-impl UserData {
-    /// Keeps at most 1,024 octets with their bits.
+impl<const N: usize> UserData<N> {
+    /// Keeps at most `N` octets with their bits.
     pub fn new(octets: &[u8], more: bool, qualified: bool, delivery: bool) -> Self
-        requires { length octets.now ≤ 1024 }
+        requires { length octets.now ≤ N }
         ensures { result ≡ record { octets = octets.now; more = more; qualified = qualified; delivery = delivery } }
     {
         let mut kept = ArrayVec::new();
@@ -49,7 +52,7 @@ impl UserData {
     /// The octets.
     pub fn octets(&self) -> &[u8]
         ensures value { result.now ≡ self.now.octets }
-        ensures fits { length result.now ≤ 1024 }
+        ensures fits { length result.now ≤ N }
     {
         self.octets.as_slice()
     }

@@ -25,7 +25,7 @@ fn octets(seed: u32) -> [u8; OCTETS] {
     octets
 }
 
-/// The same as a packet of 60 octets after a good header, of which the format is that of the line.
+/// A packet of 60 octets by a number, after a good header. Its format is that of the line.
 fn packet(seed: u32) -> [u8; OCTETS] {
     let mut packet = octets(seed);
     packet[0] = 0;

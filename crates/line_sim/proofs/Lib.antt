@@ -1,3 +1,4 @@
+mod InFlight
 mod LinesBegin
 mod Made
 pub mod Registered

@@ -1,5 +1,6 @@
 pub mod Making
 pub mod Between
+pub mod InFlight
 pub mod Runs
 pub mod Expiries
 pub mod Receipts

@@ -1,6 +1,7 @@
 //! A network of nodes on lines, what it promises of the calls on it, and runs of events.
 #![tactic(auto)]
 
+mod busy_lines;
 mod making;
 mod net;
 mod running;

@@ -18,6 +18,7 @@ ghost use Rattle.net_nodes.specs.Questions.{MaySay, PrintsNothing};
 ghost use Rattle.line_sim.specs.Courses.{HaveNoEvent, CoursesPass};
 ghost use Rattle.line_sim.specs.Runs.{IsMadeBy};
 
+use crate::busy_lines::note_frames;
 use crate::making::made_nodes;
 use call_records::{Pair, Record, all_match};
 use frame_codec::FrameBuf;
@@ -27,6 +28,7 @@ use net_events::{Answer, Event, Outcome, Puts, StepFault};
 use net_nodes::Nodes;
 use std::alloc::Global;
 use std::marker::Model;
+use wide_set::WideSet;
 
 /// A network of PADs and hosts, each at one end of one line, and of at most 16 switches. A line is between a PAD or a
 /// host, as DTE, and a host or a switch, as DCE, or it is a trunk between two switches; the trunks make trees of them.
@@ -34,6 +36,8 @@ use std::marker::Model;
 #[derive(Drop)]
 pub struct Net<L: Line> {
     nodes: Nodes<L>,
+    /// Lines on which frames may be in flight: on all others none is.
+    busy: WideSet,
     arrived: FrameBuf,
     answer: Answer,
 }
@@ -48,11 +52,11 @@ impl<L: Line> Model for Net<L> {
 
     ghost coded = { Prim.hlevel (codes, map.code {R = by_digits} (coded_list coded_ℕ) coded_ℕ) };
 
-    ghost use Rattle.line_sim.specs.Between.{IsBetweenEvents};
+    ghost use Rattle.line_sim.specs.InFlight.{IsKept};
 
     ghost view = { λ n. n.nodes };
 
-    ghost invariant = { λ n. IsBetweenEvents L.service n.nodes };
+    ghost invariant = { λ n. IsKept L.service n.busy n.nodes };
 }
 
 /// An answer without frames, notes and text, which takes no memory.
@@ -88,8 +92,10 @@ impl<L: Line> Net<L> {
     {
         let plan = plan_of(alloc, config)?;
         let nodes = made_nodes(alloc, &plan, lines)?;
+        let busy = WideSet::full(alloc, config.lines.len())?;
         Ok(Net {
             nodes,
+            busy,
             arrived: FrameBuf::new(),
             answer: bare_answer(alloc),
         })
@@ -214,7 +220,7 @@ impl<L: Line> Net<L> {
         ensures onward { from ≤ result }
         ensures none { FindNoFrames L.service from result self.now }
     {
-        self.nodes.next_with_frames(from)
+        self.nodes.next_with_frames(self.busy.next(from))
     }
 
     /// Handles an event, and lends the answer, which the network keeps until the next event. A refused event changes
@@ -235,6 +241,7 @@ impl<L: Line> Net<L> {
     {
         self.nodes
             .happen(event, &mut self.arrived, &mut self.answer)?;
+        note_frames(&mut self.busy, &self.nodes, event, &self.answer);
         Ok(&self.answer)
     }
 }

@@ -9,9 +9,9 @@ ghost use Rattle.net_config.specs.Rules.{broken_count, first_broken, Breaks};
 use crate::config::{Config, LineConfig, NodeConfig, NodeKind, RouteConfig};
 use crate::served::{
     are_accepted, count_as_dte, count_lines, count_nodes, count_routes, count_same, count_switches,
-    ends_at, has_dce_node, has_dte, has_node, has_switch, is_address, is_at_switch, is_from,
-    is_from_switch, is_line_served, is_node_served, is_numbered, is_route_served, is_sized,
-    leads_back, may_stand, most_lines, suits_pad,
+    ends_at, has_dce_node, has_dte, has_node, has_switch, is_address, is_from, is_line_served,
+    is_node_served, is_numbered, is_route_served, is_sized, leads_back, may_stand, most_lines,
+    suits_pad,
 };
 
 /// A rule of networks that does not hold, and of which node, line or route, by its place.
@@ -179,8 +179,8 @@ fn line_keeps(config: &Config, line: &LineConfig, rule: LineRule) -> bool
         LineRule::DceIsNode => has_node(nodes, &line.dce),
         LineRule::TwoNodes => !has_dte(&line.dce, line),
         LineRule::DceNoPad => has_dce_node(nodes, &line.dce),
-        LineRule::TrunkToSwitch => !is_from_switch(nodes, line) || is_at_switch(nodes, line),
-        LineRule::TrunkBack => !is_from_switch(nodes, line) || leads_back(nodes, line),
+        LineRule::TrunkToSwitch => !has_switch(nodes, &line.dte) || has_switch(nodes, &line.dce),
+        LineRule::TrunkBack => !has_switch(nodes, &line.dte) || leads_back(nodes, line),
         LineRule::DteOnce => count_as_dte(&config.lines, &line.dte) == 1,
         LineRule::Channels => is_from(1, 32, line.channels),
         LineRule::Numbered => is_numbered(line),
@@ -198,7 +198,7 @@ fn line_keeps(config: &Config, line: &LineConfig, rule: LineRule) -> bool
 fn is_access(nodes: &[NodeConfig], line: &LineConfig) -> bool
     ensures { result ≡ is_access nodes.now line.now }
 {
-    is_at_switch(nodes, line) && !is_from_switch(nodes, line)
+    has_switch(nodes, &line.dce) && !has_switch(nodes, &line.dte)
 }
 
 fn route_keeps(config: &Config, route: &RouteConfig, rule: RouteRule) -> bool

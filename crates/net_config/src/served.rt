@@ -4,7 +4,7 @@ ghost use Rattle.net_config.specs.Served.{is_from, is_named, has_dte, has_end, p
 ghost use Rattle.net_config.specs.Served.{is_pad_served, is_kind_served, most_lines, is_route_of, is_node_served};
 ghost use Rattle.net_config.specs.Served.{is_numbered, is_sized, is_within, is_pad, is_switch, is_dce_named};
 ghost use Rattle.net_config.specs.Served.{is_pad_named, is_switch_named, suits_pad};
-ghost use Rattle.net_config.specs.Served.{joins_nodes, is_from_switch, is_at_switch, leads_back, is_in_tree};
+ghost use Rattle.net_config.specs.Served.{joins_nodes, leads_back, is_in_tree};
 ghost use Rattle.net_config.specs.Served.{is_address, has_own_address, may_stand, is_line_served, ends_at};
 ghost use Rattle.net_config.specs.Served.{same_route, is_route_served, is_served};
 ghost use Rattle.std.specs.List.{list_all, list_any, filter, position};
@@ -228,20 +228,6 @@ fn joins_nodes(nodes: &[NodeConfig], line: &LineConfig) -> bool
     !has_dte(&line.dce, line) && has_node(nodes, &line.dte) && has_dce_node(nodes, &line.dce)
 }
 
-/// Whether the line's DTE is a switch.
-pub(crate) fn is_from_switch(nodes: &[NodeConfig], line: &LineConfig) -> bool
-    ensures { result ≡ is_from_switch nodes.now line.now }
-{
-    has_switch(nodes, &line.dte)
-}
-
-/// Whether the line's DCE is a switch.
-pub(crate) fn is_at_switch(nodes: &[NodeConfig], line: &LineConfig) -> bool
-    ensures { result ≡ is_at_switch nodes.now line.now }
-{
-    has_switch(nodes, &line.dce)
-}
-
 /// Whether the line's DCE comes earlier than its DTE.
 pub(crate) fn leads_back(nodes: &[NodeConfig], line: &LineConfig) -> bool
     ensures { result ≡ leads_back nodes.now line.now }
@@ -261,7 +247,7 @@ fn is_in_tree(config: &Config, line: &LineConfig) -> bool
     ensures { result ≡ is_in_tree config.now line.now }
 {
     let nodes = &config.nodes;
-    (!is_from_switch(nodes, line) || (is_at_switch(nodes, line) && leads_back(nodes, line)))
+    (!has_switch(nodes, &line.dte) || (has_switch(nodes, &line.dce) && leads_back(nodes, line)))
         && count_as_dte(&config.lines, &line.dte) == 1
 }
 
@@ -283,7 +269,7 @@ pub(crate) fn is_address(text: &str) -> bool
 fn has_own_address(nodes: &[NodeConfig], line: &LineConfig) -> bool
     ensures { result ≡ has_own_address nodes.now line.now }
 {
-    if is_at_switch(nodes, line) && !is_from_switch(nodes, line) {
+    if has_switch(nodes, &line.dce) && !has_switch(nodes, &line.dte) {
         is_address(&line.address)
     } else {
         line.address.is_empty()
@@ -295,7 +281,7 @@ pub(crate) fn may_stand(config: &Config, line: &LineConfig) -> bool
 {
     config.lines.len() == 1
         && has_pad(&config.nodes, &line.dte)
-        && !is_at_switch(&config.nodes, line)
+        && !has_switch(&config.nodes, &line.dce)
 }
 
 pub(crate) fn is_line_served(config: &Config, line: &LineConfig) -> bool

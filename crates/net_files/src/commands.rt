@@ -1,5 +1,5 @@
 //! The commands of a script, in order.
-ghost use Rattle.std.specs.Prelude.{◌≡◌, ◌==◌, ◌++◌, [], ◌∷◌, OnOk, length, option_map};
+ghost use Rattle.std.specs.Prelude.{◌≡◌, ◌==◌, ◌++◌, [], ◌∷◌, OnOk, option_map};
 ghost use Rattle.net_files.specs.Commands.{Keys as KeysView, Event as EventView, Flow as FlowView};
 ghost use Rattle.net_files.specs.Commands.{Tick as TickView, Trace as TraceView, Check as CheckView};
 ghost use Rattle.net_files.specs.Answers.{GivesOrWants};
@@ -80,13 +80,6 @@ impl Commands {
             events: Vec::new(alloc),
             octets: Vec::new(alloc),
         }
-    }
-
-    /// How many there are.
-    pub fn len(&self) -> usize
-        ensures { result ≡ length self.now }
-    {
-        self.entries.len()
     }
 
     /// The commands, one after the other.

@@ -190,9 +190,10 @@ pub(crate) fn numbered_timer(word: &[u8], number: u8) -> Option<TimerId>
     }
 }
 
-/// Whether a word is this one. Most words have another length, and comparing octets is a call.
+/// Whether a word is this one. Inlined with a name that is known, it is a few comparisons of octets and no call.
+#[inline(always)]
 fn spells(word: &[u8], name: &[u8]) -> bool
     ensures { result ≡ bytes_eq word.now name.now }
 {
-    word.len() == name.len() && word == name
+    word.len() == name.len() && word.iter().zip(name).all(|(octet, other)| octet == other)
 }

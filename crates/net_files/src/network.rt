@@ -54,7 +54,7 @@ pub fn read_net(alloc: Global, text: &str) -> Result<Config, ProgFault>
     ensures spelled { Makes (Spells text.now) result }
     ensures marked { begins_with_mark text.now ≡ true → IsErrOf result ProgFault.NetText }
 {
-    if begins_with_mark(text) {
+    if text.starts_with(BYTE_ORDER_MARK) {
         return Err(ProgFault::NetText);
     }
     match toml::table_from_str(alloc, text) {
@@ -62,13 +62,6 @@ pub fn read_net(alloc: Global, text: &str) -> Result<Config, ProgFault>
         Err(error) if error.is_memory() => Err(ProgFault::OutOfMemory),
         Err(_) => Err(ProgFault::NetText),
     }
-}
-
-/// Whether a text begins with the byte order mark.
-fn begins_with_mark(text: &str) -> bool
-    ensures { result ≡ begins_with_mark text.now }
-{
-    text.starts_with(BYTE_ORDER_MARK)
 }
 
 /// The network of a document.

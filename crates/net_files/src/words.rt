@@ -1,6 +1,6 @@
 //! The words of a line of a script.
-ghost use Rattle.std.specs.Prelude.{◌≡◌, ◌<◌, ◌≤◌, ◌==◌, ℕ, List, [], ◌∷◌, ◌++◌, Some, length};
-ghost use Rattle.std.specs.Prelude.{position, IfOk, IfErr, OnOk, OnErr};
+ghost use Rattle.std.specs.Prelude.{◌≡◌, ◌<◌, ◌≤◌, ℕ, List, [], ◌∷◌, ◌++◌, Some, length};
+ghost use Rattle.std.specs.Prelude.{IfOk, IfErr, OnOk, OnErr};
 ghost use Rattle.std.specs.Prelude.{min, option_map, IsTrue};
 ghost use Rattle.std.specs.List.{list_all};
 ghost use Rattle.std.specs.Char.{is_ascii_digit};
@@ -65,6 +65,7 @@ impl<'a> Words<'a> {
     }
 
     /// The next word.
+    #[inline]
     pub(crate) fn next_word(&mut self) -> Result<&'a [u8], LineFault>
         ensures { Gives (λ word. (word.now, left_of self.new)) result (next_word (left_of self.old)) }
     {
@@ -142,22 +143,17 @@ impl<'a> Words<'a> {
 }
 
 /// The octets before the first one of a kind, and those after it if there is one.
+#[inline(always)]
+#[tactic(auto, using(crate::proofs::Places::place_found))]
 pub(crate) fn cut(octets: &[u8], at: u8) -> (&[u8], Option<&[u8]>)
     ensures before { result.0.now ≡ before at octets.entry.now }
     ensures behind { option_map (λ s. s.now) result.1 ≡ behind at octets.entry.now }
     ensures shorter { length_left (option_map (λ s. s.now) result.1) ≤ length octets.entry.now }
 {
-    match first_place(octets, at) {
+    match memchr(at, octets) {
         Some(place) => (&octets[..place], Some(&octets[place + 1..])),
         None => (octets, None),
     }
-}
-
-/// The index of the first octet of this value.
-fn first_place(octets: &[u8], at: u8) -> Option<usize>
-    ensures { result ≡ position (λ octet. octet == at) octets.now }
-{
-    memchr(at, octets)
 }
 
 /// Reads digits, of a number of at most 65,535.

@@ -36,6 +36,7 @@ use x3_params::Params;
 use x25_pad::{Pad, PadConfig};
 use x25_switch::{Switch, SwitchConfig, SwitchLineConfig};
 
+#[inline(never)]
 fn new_host(alloc: Global, role: Role, line: EndParams) -> Result<Node, MakeFault>
     requires { AreParams line }
     ensures ok { IfOk result (λ node. node_of node ≡ host_node (host_made.made (record { role = role; line = line }))) }
@@ -48,6 +49,7 @@ fn new_host(alloc: Global, role: Role, line: EndParams) -> Result<Node, MakeFaul
     }
 }
 
+#[inline(never)]
 fn new_pad(alloc: Global, params: Params, terminals: u8, line: EndParams) -> Result<Node, MakeFault>
     requires line { AreParams line }
     requires least { 1 ≤ terminals }
@@ -70,6 +72,7 @@ fn new_pad(alloc: Global, params: Params, terminals: u8, line: EndParams) -> Res
 }
 
 /// A node in the state in which it is made.
+#[inline(never)]
 fn new_node(alloc: Global, node: &NewNode, line: EndParams) -> Result<Node, MakeFault>
     requires line { AreParams line }
     requires dte { node.now.role ≡ role_is.Dte → IsNewDte node.now.as_dte line }
@@ -86,6 +89,7 @@ fn new_node(alloc: Global, node: &NewNode, line: EndParams) -> Result<Node, Make
 }
 
 /// A node with users, at its line.
+#[inline(never)]
 fn new_user(alloc: Global, plan: &NetPlan, node: &NewNode) -> Result<Equipment, MakeFault>
     requires plan { IsPlan plan.now }
     requires there { IsOfPlan plan.now (PlannedUser node.now) }
@@ -167,6 +171,7 @@ fn new_routes(alloc: Global, routes: &[NewRoute]) -> Result<Routes, MakeFault>
 }
 
 /// The switch of a place, at its lines.
+#[inline(never)]
 fn new_switch(
     alloc: Global,
     plan: &NetPlan,

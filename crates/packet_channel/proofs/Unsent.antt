@@ -1,9 +1,8 @@
 -- A channel has no packet for the link exactly if nothing that may go stays unsent.
-use Rattle.std.proofs.Common.{◌≡◌, Bool, true, false, not, ◌&&◌, List, [], ◌∷◌, Option, Some, None, is_some, if◌then◌else◌, refl, sym, ap, subst, ◌∙◌}
+use Rattle.std.proofs.Common.{◌≡◌, Bool, true, false, not, ◌&&◌, List, [], ◌∷◌, None, is_some, if◌then◌else◌, refl, sym, ap, subst, ◌∙◌}
 use Rattle.std.specs.Bool.{OnFalse}
 use Rattle.std.proofs.lemmas.Bool.{and_parts}
 use Rattle.data_transfer.specs.Packets.{Body}
-use Rattle.data_transfer.specs.Traffic.{says}
 use Rattle.data_transfer.specs.declared.flow.Flow.{Flow}
 use Rattle.data_transfer.proofs.Unsent.{said_all, says_none}
 use Rattle.packet_channel.specs.Channel.{ChannelState, Channel, ChannelNext, in_transfer, has_flow, next_owed, next_of}

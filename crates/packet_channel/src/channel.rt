@@ -5,7 +5,6 @@ ghost use Rattle.std.specs.Prelude.{if◌then◌else◌};
 ghost use Rattle.flow_window.specs.Pool.{Holds, Balances};
 ghost use Rattle.packet_channel.specs.Channel as machine;
 ghost use Rattle.packet_channel.specs.ControlView.{control_body};
-ghost use Rattle.packet_channel.specs.Done.{IsDone};
 ghost use Rattle.data_transfer.specs.Held.{Loses};
 ghost use Rattle.packet_channel.specs.Held.{Fits};
 ghost use Rattle.packet_channel.specs.StateView.{state_of};
@@ -13,19 +12,17 @@ ghost use Rattle.packet_channel.specs.Unsent.{ChannelHasSaidAll};
 ghost use Rattle.data_transfer.specs.Octets.{parts_of, written, ReadsAs};
 ghost use Rattle.data_transfer.specs.Packets.{Body as body};
 ghost use Rattle.data_transfer.specs.declared.flow.Flow.{Flow as FlowValue};
-ghost use Rattle.packet_codec.specs.Diagnostic.{no_information};
 
 mod errors;
 mod receiving;
 mod requests;
 
 use crate::control::{Control, write_control};
-use crate::notes::Notes;
 use crate::owed::Owed;
-use crate::state::{ChannelState, End};
+use crate::state::ChannelState;
 use data_transfer::{Flow, Front, SEND_QUEUE, TakenBuf, Traffic};
 use flow_window::pool::Pool;
-use packet_codec::{CallBuf, PacketBuf, diagnostic};
+use packet_codec::{CallBuf, PacketBuf};
 pub use requests::Request;
 use std::alloc::{AllocError, Global};
 use std::marker::Model;
@@ -87,7 +84,7 @@ impl Channel {
     {
         self.state = ChannelState::Ready;
         self.resetting = false;
-        self.owed.clear();
+        self.owed = Owed::new();
         self.traffic.clear(pool);
     }
 
@@ -214,18 +211,6 @@ impl Channel {
         ensures { result ≡ is_some (machine.next_of flow self.now.channel).body }
     {
         !self.owed.is_empty() || (self.has_flow() && self.traffic.has_packet(flow))
-    }
-
-    /// Clears the call whose timer expired, and answers whether one control packet too many is owed.
-    pub fn expire(&mut self, end: End, pool: &mut Pool, notes: &mut Notes) -> bool
-        requires holds { Holds pool.old self.old.held }
-        requires read { notes.old ≡ [] }
-        ensures done { IsDone (machine.clear_error end.role end.channel no_information true self.old.channel)
-            self.new.channel result notes.new }
-        ensures pool { Balances pool.old self.old.held pool.new self.new.held }
-        ensures fits { (flow : FlowValue) → Fits flow self.old → Fits flow self.new }
-    {
-        self.clear_error(end, diagnostic::NO_INFORMATION, true, pool, notes)
     }
 
     /// Places a call on a free channel, and answers whether one control packet too many is owed.

@@ -1,9 +1,10 @@
 //! Packets that are owed to the link.
-ghost use Rattle.std.specs.Prelude.{◌≡◌, ◌==◌, [], Some, drop, length, option_copied, slice_get};
+ghost use Rattle.std.specs.Prelude.{◌≡◌, [], Some, drop, option_copied, slice_get};
 ghost use Rattle.packet_channel.specs.Channel.{with_owed, passes_limit};
 
 use arrayvec::ArrayVec;
 use std::marker::Model;
+use std::ops::Deref;
 
 /// How many control packets may be owed on a channel, and how many restart packets.
 const MOST_OWED: usize = 4;
@@ -22,6 +23,16 @@ impl<P> Model for Owed<P> {
     ghost view = { λ o. o.packets.items };
 }
 
+impl<P> Deref for Owed<P> {
+    type Target = ArrayVec<P, MOST_OWED>;
+
+    fn deref(&self) -> &ArrayVec<P, MOST_OWED>
+        ensures { result.now.items ≡ self.now }
+    {
+        &self.packets
+    }
+}
+
 impl<P: Default + Drop> Owed<P> {
     /// No packets.
     pub fn new() -> Self
@@ -30,20 +41,6 @@ impl<P: Default + Drop> Owed<P> {
         Owed {
             packets: ArrayVec::new(),
         }
-    }
-
-    /// Whether no packet is owed.
-    pub fn is_empty(&self) -> bool
-        ensures { result ≡ (length self.now == 0) }
-    {
-        self.packets.is_empty()
-    }
-
-    /// Drops all packets.
-    pub fn clear(&mut self)
-        ensures { self.new ≡ [] }
-    {
-        self.packets.clear();
     }
 
     /// Owes a packet more, and answers whether it is one too many. That one is not kept.

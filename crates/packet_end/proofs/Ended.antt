@@ -1,5 +1,6 @@
 -- An end at which an event ended stays as it is when one ends again.
 use Rattle.std.proofs.Common.{◌≡◌, ◌∙◌, refl, sym, ap, subst, Bool, true, false, List, [], ◌∷◌, length, drop, inl, inr}
+use Rattle.std.specs.Box.{with_value}
 use Rattle.std.specs.Prelude.{ℕ, ◌⊎◌, Option, None, is_some, not, ◌&&◌, cond, if◌then◌else◌}
 use Rattle.lapb.specs.declared.phase.Phase.{Phase}
 use Rattle.lapb.specs.Machine.{Octets, Link, can_offer, runs, sendable, send_all, settle_in}
@@ -129,10 +130,10 @@ still_finished e frames notes is = record {
 }
 
 pub taken_from : (a : Inside) (line : LineEnd) (frames : List Octets) (notes : List Note) → IsPooled a →
-    line ≡ record a.line { end = record a.line.end { frames = frames } } →
-    IsPooled (record a { line = line; notes = notes })
+    line ≡ record a.line.value { end = record a.line.value.end { frames = frames } } →
+    IsPooled (record a { line = with_value a.line line; notes = notes })
 taken_from a line frames notes is same =
-    subst (λ (l : LineEnd). IsPooled (record a { line = l; notes = notes })) (sym same) (record {
+    subst (λ (l : LineEnd). IsPooled (record a { line = with_value a.line l; notes = notes })) (sym same) (record {
       line = is.line;
       layer = is.layer;
       info = is.info;
@@ -141,6 +142,7 @@ taken_from a line frames notes is same =
     })
   where
     by : IsTouched a.touched ⊎ IsFinished (end_of a) →
-        IsTouched a.touched ⊎ IsFinished (record (end_of a) { line = record a.line.end { frames = frames }; notes = notes })
+        IsTouched a.touched
+        ⊎ IsFinished (record (end_of a) { line = record a.line.value.end { frames = frames }; notes = notes })
     by (inl touched) = inl touched
     by (inr finished) = inr (still_finished (end_of a) frames notes finished)

@@ -47,7 +47,7 @@ count bs cs =
     omega (arith, parts, all, first, second)
 
 pub served : (a : Inside) (x : PooledEnd) (pool : Pool) → pooled_of a ≡ x → Serves pool x.held x.share x.info →
-    ServesBoth pool a.line a.layer
+    ServesBoth pool a.line.value a.layer
 served a x pool view is = subst (λ (x : PooledEnd). Serves pool x.held x.share x.info) (sym view) is
 
 pub line_holds : (pool : Pool) (line : LineEnd) (layer : Layer) → ServesBoth pool line layer → Holds pool line.held
@@ -117,33 +117,37 @@ layer_steps before after line old new change = record {
       omega (arith, own, before, after);
 }
 
-pub line_balanced : (a : Inside) (x : PooledEnd) (before after : Pool) (new : LineEnd) → pooled_of a ≡ x →
-    Balances before a.line.held after new.held → Balances before x.held after (new.held ++ a.layer.held)
-line_balanced a x before after new view change =
+pub line_balanced : {old : LineEnd} (a : Inside) (x : PooledEnd) (before after : Pool) (new : LineEnd) → pooled_of a ≡ x →
+    old ≡ a.line.value → Balances before old.held after new.held → Balances before x.held after (new.held ++ a.layer.held)
+line_balanced a x before after new view lent change =
     subst (λ (x : PooledEnd). Balances before x.held after (new.held ++ a.layer.held)) view
-    (link_steps before after a.line new a.layer change)
+    (link_steps before after a.line.value new a.layer
+    (subst (λ (l : LineEnd). Balances before l.held after new.held) lent change))
+
+pub lent_holds : {lent : LineEnd} (pool : Pool) (line : LineEnd) → lent ≡ line → Holds pool line.held → Holds pool lent.held
+lent_holds pool line same holds = subst (λ (l : LineEnd). Holds pool l.held) (sym same) holds
 
 pub layer_balanced : (a : Inside) (x : PooledEnd) (before after : Pool) (new : Layer) → pooled_of a ≡ x →
-    Balances before a.layer.held after new.held → Balances before x.held after (a.line.held ++ new.held)
+    Balances before a.layer.held after new.held → Balances before x.held after (a.line.value.held ++ new.held)
 layer_balanced a x before after new view change =
-    subst (λ (x : PooledEnd). Balances before x.held after (a.line.held ++ new.held)) view
-    (layer_steps before after a.line a.layer new change)
+    subst (λ (x : PooledEnd). Balances before x.held after (a.line.value.held ++ new.held)) view
+    (layer_steps before after a.line.value a.layer new change)
 
 pub layer_loses : (a : Inside) (x : PooledEnd) (given : List Buffer) (new : Layer) → pooled_of a ≡ x →
-    Loses a.layer.held given new.held → Loses x.held given (a.line.held ++ new.held)
+    Loses a.layer.held given new.held → Loses x.held given (a.line.value.held ++ new.held)
 layer_loses a x given new view change w =
     let own = change w in
-    let old = weight_append w a.line.held a.layer.held in
-    let all = weight_append w a.line.held new.held in
+    let old = weight_append w a.line.value.held a.layer.held in
+    let all = weight_append w a.line.value.held new.held in
     let whole = ap (λ (x : PooledEnd). weight w x.held) view in
     omega (arith, own, old, all, whole)
 
 pub layer_takes : (a : Inside) (x : PooledEnd) (b : Buffer) (back : List Buffer) (new : Layer) → pooled_of a ≡ x →
-    Takes a.layer.held b back new.held → Takes x.held b back (a.line.held ++ new.held)
+    Takes a.layer.held b back new.held → Takes x.held b back (a.line.value.held ++ new.held)
 layer_takes a x b back new view change w =
     let own = change w in
-    let old = weight_append w a.line.held a.layer.held in
-    let all = weight_append w a.line.held new.held in
+    let old = weight_append w a.line.value.held a.layer.held in
+    let all = weight_append w a.line.value.held new.held in
     let whole = ap (λ (x : PooledEnd). weight w x.held) view in
     omega (arith, own, old, all, whole)
 

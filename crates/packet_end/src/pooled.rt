@@ -25,7 +25,7 @@ use line_end::{LineEnd, MOST_FRAMES};
 use link_timers::{Role, TimerId};
 use packet_codec::PacketBuf;
 use packet_layer::{Layer, LayerNote, LayerTimers};
-use std::alloc::Global;
+use std::alloc::{AllocError, Global};
 use std::marker::Model;
 use std::ops::Deref;
 
@@ -35,7 +35,8 @@ use std::ops::Deref;
 /// [`Layer`].
 #[derive(Drop)]
 pub struct PooledEnd {
-    line: LineEnd,
+    /// On the heap, since it has room for the frames of an event.
+    line: Box<LineEnd>,
     layer: Layer,
     timers: LayerTimers,
     notes: EventNotes,
@@ -71,6 +72,7 @@ impl PooledEnd {
 
     /// The end of this role of a line, as `PacketEnd::new` makes it. It takes all the memory that it ever uses, but for
     /// the pool. `OutOfMemory` comes for want of memory.
+    #[inline(never)]
     pub fn new(
         alloc: Global,
         role: Role,
@@ -91,6 +93,7 @@ impl PooledEnd {
         let layer = Layer::new(alloc, role, params.layer())?;
         let notes = EventNotes::new(alloc)?;
         let line = LineEnd::new(role, params.link(), pool)?;
+        let line = Box::new(alloc, line).map_err(AllocError::from)?;
         Ok(PooledEnd {
             line,
             layer,

@@ -9,8 +9,8 @@ mod params;
 mod restart;
 
 pub use data_transfer::{
-    DEFAULT_SIZE, Flow, Front, InterruptData, KeptPacket, SEND_QUEUE, Taken, TakenBuf, UserData,
-    full_packets,
+    AnyUserData, DEFAULT_SIZE, Flow, Front, InterruptData, KeptPacket, SEND_QUEUE, Taken, TakenBuf,
+    UserData, full_packets,
 };
 pub use fault::{CallFault, LayerFault};
 pub use layer::Layer;

@@ -5,3 +5,4 @@ pub mod Ports
 pub mod PortView
 pub mod TakenView
 pub mod Showing
+pub mod Settled

@@ -1,5 +1,5 @@
 -- Notes of a PAD, as the code has them.
-use Rattle.std.specs.Prelude.{◌≡◌, ℕ, ◌∷◌, [], List, map, Option, Some, None}
+use Rattle.std.specs.Prelude.{ℕ, ◌≤◌, ◌∷◌, [], List, map, drop, length, vec_capacity, Option, Some, None}
 use Rattle.pad_editing.specs.Edited.Step.{key, idle}
 use Rattle.packet_channel.specs.NoteView.{note_of}
 use Rattle.pad_ports.specs.Notes as spec
@@ -32,14 +32,18 @@ maybe_terminal_note None = None
 maybe_terminal_note (Some n) = Some (record { terminal = n.terminal; note = pad_note_of n.note })
 
 abbrev pub notes_in : Inside → List spec.ChannelNote
-notes_in q = map pad_note_of q.notes.items
+notes_in q = map pad_note_of (drop q.read q.notes.items)
 
--- it has its places
+-- it has its places, and no more was read than there are
 pub record IsNoteQueue (q : Inside) : Type 0 where
-  pub capacity : q.notes.capacity ≡ MOST_NOTES
+  pub places : MOST_NOTES ≤ vec_capacity q.notes
+  pub read : q.read ≤ length q.notes.items
+  pub few : length q.notes.items ≤ MOST_NOTES
 
 abbrev pub terminals_in : places.Inside → List (Option ℕ)
-terminals_in q = q.terminals.items
+terminals_in q = drop q.read q.terminals.items
 
 pub record IsTerminalQueue (q : places.Inside) : Type 0 where
-  pub capacity : q.terminals.capacity ≡ MOST_NOTES
+  pub places : MOST_NOTES ≤ vec_capacity q.terminals
+  pub read : q.read ≤ length q.terminals.items
+  pub few : length q.terminals.items ≤ MOST_NOTES

@@ -12,4 +12,4 @@ pub use call::PortNote;
 pub use line::PadLine;
 pub use note::{ChannelNote, EARLY_NOTES, MOST_NOTES, NotedAt, PadNote, PadNotes, TOLD_NOTES};
 pub use port::{MOST_TEXT, Port};
-pub use taken::{PadData, PadTaken};
+pub use taken::PadTaken;

@@ -9,11 +9,11 @@ ghost use Rattle.pad_ports.specs.PadLine as spec;
 ghost use Rattle.pad_ports.specs.TakenView.{maybe_taken};
 
 use crate::note::{ChannelNote, MOST_NOTES, PadNotes};
-use crate::taken::{PadData, PadTaken};
+use crate::taken::PadTaken;
 use arrayvec::ArrayVec;
 use packet_codec::{Address, CallData};
 use packet_end::PacketEnd;
-use packet_layer::{CallFault, ChannelFault, Request, Taken};
+use packet_layer::{CallFault, ChannelFault, Request, Taken, UserData};
 use pad_terminal::CallCondition;
 use std::marker::Model;
 
@@ -69,7 +69,7 @@ impl PadLine {
             qualified,
             delivery: false,
         };
-        let user_data = PadData::new(octets, false, qualified, false);
+        let user_data = UserData::new(octets, false, qualified, false);
         self.ask(channel, &request, ChannelNote::Sent { channel, user_data });
     }
 
@@ -173,7 +173,7 @@ impl PadLine {
     {
         match self.end.take(channel)? {
             Taken::Interrupt(data) => Some(PadTaken::Interrupt(data)),
-            Taken::Data(data) => Some(PadTaken::Data(PadData::new(
+            Taken::Data(data) => Some(PadTaken::Data(UserData::new(
                 data.octets(),
                 data.more(),
                 data.qualified(),

@@ -1,13 +1,12 @@
 //! What a PAD notes of an event, in order.
 ghost use Rattle.std.specs.Prelude.{◌≡◌, ◌<◌, ◌≤◌, ◌-◌, ◌++◌, [], ◌∷◌, IfOk, length, replicate, drop, slice_get};
-ghost use Rattle.std.specs.Prelude.{option_copied};
+ghost use Rattle.std.specs.Prelude.{option_copied, vec_len, vec_capacity};
 ghost use Rattle.pad_ports.specs.NoteView.{pad_note_of, maybe_pad_note};
 ghost use Rattle.pad_ports.specs.Notes.{first_terminal};
 
-use crate::taken::{PadData, PadTaken};
-use circular_buffer::HeapCircularBuffer;
+use crate::taken::{MOST_OCTETS, PadTaken};
 use packet_codec::Address;
-use packet_layer::LayerNote;
+use packet_layer::{LayerNote, UserData};
 use std::alloc::{AllocError, Global};
 use std::marker::Model;
 use x3_params::Params;
@@ -57,7 +56,7 @@ pub enum ChannelNote {
     /// A Data packet went into the send queue.
     Sent {
         channel: u8,
-        user_data: PadData,
+        user_data: UserData<MOST_OCTETS>,
     },
     /// An interrupt of this octet was sent.
     Interrupted {
@@ -83,7 +82,10 @@ pub struct PadNote {
 /// The notes of an event that are not yet read, in order.
 #[derive(Drop)]
 pub struct PadNotes {
-    notes: HeapCircularBuffer<ChannelNote>,
+    /// The notes of the event, with those that were read and not taken.
+    notes: Vec<ChannelNote>,
+    /// How many of these were read.
+    read: usize,
 }
 
 impl Model for PadNotes {
@@ -104,8 +106,8 @@ impl PadNotes {
     pub fn new(alloc: Global) -> Result<Self, AllocError>
         ensures { IfOk result (λ q. q ≡ []) }
     {
-        let notes = HeapCircularBuffer::with_capacity(alloc, MOST_NOTES)?;
-        Ok(PadNotes { notes })
+        let notes = Vec::with_capacity(alloc, MOST_NOTES)?;
+        Ok(PadNotes { notes, read: 0 })
     }
 
     /// Drops all notes.
@@ -113,6 +115,7 @@ impl PadNotes {
         ensures { self.new ≡ [] }
     {
         self.notes.clear();
+        self.read = 0;
     }
 
     /// How many notes there are.
@@ -120,30 +123,36 @@ impl PadNotes {
         ensures count { result ≡ length self.now }
         ensures most { result ≤ MOST_NOTES }
     {
-        self.notes.len()
+        self.notes.len() - self.read
     }
 
     /// Adds a note.
+    #[inline(always)]
     pub fn add(&mut self, note: ChannelNote)
         requires { length self.old < MOST_NOTES }
         ensures { self.new ≡ self.old ++ pad_note_of note ∷ [] }
     {
-        let _ = self.notes.try_push_back(note);
+        if self.read > 0 {
+            drop_front(&mut self.notes, self.read);
+            self.read = 0;
+        }
+        let _ = self.notes.push(note);
     }
 
     /// The first note, if there is one.
     pub fn first(&self) -> Option<&ChannelNote>
         ensures { maybe_pad_note (option_copied result) ≡ slice_get self.now 0 }
     {
-        self.notes.front()
+        self.notes.get(self.read)
     }
 
     /// Drops the first note, if there is one.
     pub fn drop_first(&mut self)
         ensures { self.new ≡ drop 1 self.old }
     {
-        self.notes
-            .truncate_front(self.notes.len().saturating_sub(1));
+        if self.read < self.notes.len() {
+            self.read += 1;
+        }
     }
 
     /// Takes the first note, if there is one.
@@ -151,14 +160,20 @@ impl PadNotes {
         ensures value { maybe_pad_note result ≡ slice_get self.old 0 }
         ensures rest { self.new ≡ drop 1 self.old }
     {
-        self.notes.pop_front()
+        if self.read == self.notes.len() {
+            return None;
+        }
+        Some(self.notes.remove(self.read))
     }
 }
 
 /// The terminals of the notes of an event that are not yet read, in order.
 #[derive(Drop)]
 pub struct NotedAt {
-    terminals: HeapCircularBuffer<Option<u8>>,
+    /// The terminals of the notes of the event, with those that were read.
+    terminals: Vec<Option<u8>>,
+    /// How many of these were read.
+    read: usize,
 }
 
 impl Model for NotedAt {
@@ -178,8 +193,8 @@ impl NotedAt {
     pub fn new(alloc: Global) -> Result<Self, AllocError>
         ensures { IfOk result (λ q. q ≡ []) }
     {
-        let terminals = HeapCircularBuffer::with_capacity(alloc, MOST_NOTES)?;
-        Ok(NotedAt { terminals })
+        let terminals = Vec::with_capacity(alloc, MOST_NOTES)?;
+        Ok(NotedAt { terminals, read: 0 })
     }
 
     /// Drops all terminals.
@@ -187,14 +202,20 @@ impl NotedAt {
         ensures { self.new ≡ [] }
     {
         self.terminals.clear();
+        self.read = 0;
     }
 
     /// Adds the terminal of one more note.
+    #[inline(always)]
     pub fn add(&mut self, terminal: Option<u8>)
         requires { length self.old < MOST_NOTES }
         ensures { self.new ≡ self.old ++ terminal ∷ [] }
     {
-        let _ = self.terminals.try_push_back(terminal);
+        if self.read > 0 {
+            drop_front(&mut self.terminals, self.read);
+            self.read = 0;
+        }
+        let _ = self.terminals.push(terminal);
     }
 
     /// Adds this terminal for each further note, up to so many.
@@ -204,7 +225,7 @@ impl NotedAt {
         requires room { notes ≤ MOST_NOTES }
         ensures { self.new ≡ self.old ++ replicate (notes - length self.old) terminal }
     {
-        for _ in self.terminals.len()..notes {
+        for _ in self.terminals.len() - self.read..notes {
             self.add(terminal);
         }
     }
@@ -213,7 +234,7 @@ impl NotedAt {
     pub fn first(&self) -> Option<u8>
         ensures { result ≡ first_terminal self.now }
     {
-        match self.terminals.front() {
+        match self.terminals.get(self.read) {
             Some(terminal) => *terminal,
             None => None,
         }
@@ -224,9 +245,22 @@ impl NotedAt {
         ensures value { result ≡ first_terminal self.old }
         ensures rest { self.new ≡ drop 1 self.old }
     {
-        match self.terminals.pop_front() {
-            Some(terminal) => terminal,
-            None => None,
+        let terminal = self.first();
+        if self.read < self.terminals.len() {
+            self.read += 1;
         }
+        terminal
+    }
+}
+
+/// Drops so many entries at the front of a list.
+#[inline(never)]
+fn drop_front<T: Drop>(list: &mut Vec<T>, count: usize)
+    requires { count ≤ vec_len list.old }
+    ensures items { list.new.items ≡ drop count list.old.items }
+    ensures capacity { vec_capacity list.new ≡ vec_capacity list.old }
+{
+    for _ in 0..count {
+        let _ = list.remove(0);
     }
 }

@@ -1,6 +1,8 @@
 //! A terminal at its port of the PAD.
 ghost use Rattle.std.specs.Prelude.{◌≡◌, IfOk, is_some};
+ghost use Rattle.std.specs.Bool.{OnTrue};
 ghost use Rattle.pad_ports.specs.Ports as spec;
+ghost use Rattle.pad_ports.specs.Settled.{IsSettled};
 
 mod asking;
 mod printing;
@@ -99,14 +101,17 @@ impl Port {
         }
     }
 
-    /// Ends an event: the terminal may go on if it was told to stop, and the idle timer runs as it wants it.
-    pub fn settle(&mut self, line: &PadLine)
-        ensures { self.new ≡ spec.settled line.now self.old }
+    /// Ends an event: the terminal may go on if it was told to stop, and the idle timer runs as it wants it. Answers
+    /// whether the port is then settled: it stays so until something touches it.
+    pub fn settle(&mut self, line: &PadLine) -> bool
+        ensures port { self.new ≡ spec.settled line.now self.old }
+        ensures settled { OnTrue result (IsSettled self.new) }
     {
         if self.terminal.is_stopped() {
             self.terminal.resume_device(line.is_full(self.call));
         }
         self.idle_left = brought(self.terminal.idle_time(), self.idle_left);
+        !self.terminal.is_stopped()
     }
 
     /// Lets ticks pass, each a twentieth of a second: an idle timer that runs has so many less left, at least 0.

@@ -9,8 +9,8 @@ use Rattle.toml.specs.Data.{Data, Items, Members, as_str}
 use Rattle.net_config.specs.Served.{same_text}
 use Rattle.service_ports.specs.declared.mode.Mode.{Mode}
 use Rattle.service_ports.specs.declared.mode.Mode.TheVariants.{Telnet, Raw}
-use Rattle.service_files.specs.declared.file.BuiltIn.{BuiltIn as BuiltInService}
-use Rattle.service_files.specs.declared.file.BuiltIn.TheVariants.{Echo, Time, Discard}
+use Rattle.service_files.specs.declared.file.BuiltInName.{BuiltInName}
+use Rattle.service_files.specs.declared.file.BuiltInName.TheVariants.{Echo, Time, Discard}
 use Rattle.bridge_ports.specs.declared.phases.AtReset.{AtReset}
 use Rattle.bridge_ports.specs.declared.phases.AtReset.TheVariants as at_reset
 use Rattle.service_files.specs.declared.file.Connect.{Connect}
@@ -30,7 +30,7 @@ abbrev pub mode_of : Option (List ℕ) → Mode
 mode_of None = Telnet
 mode_of (Some word) = if same_text word (codes "raw") then Raw else Telnet
 
-abbrev pub builtin_of : List ℕ → BuiltInService
+abbrev pub builtin_of : List ℕ → BuiltInName
 builtin_of word =
     if same_text word (codes "echo") then Echo else (if same_text word (codes "time") then Time else Discard)
 

@@ -4,14 +4,14 @@ use bridge_ports::AtReset;
 use service_ports::Mode;
 use std::net::SocketAddr;
 
-/// A service of `x25d` itself.
+/// The name of a service of `x25d` itself.
 #[derive(Clone, Copy)]
-pub enum BuiltIn {
-    /// It says what it hears.
+pub enum BuiltInName {
+    /// `echo`, which says what it hears.
     Echo,
-    /// It says the time and clears the call.
+    /// `time`, which says the time and clears the call.
     Time,
-    /// It takes what comes and says nothing.
+    /// `discard`, which takes what comes and says nothing.
     Discard,
 }
 
@@ -46,7 +46,7 @@ pub struct Connect {
 /// What serves the incoming calls of a host.
 #[derive(Clone, Copy)]
 pub enum HostService {
-    BuiltIn(BuiltIn),
+    BuiltIn(BuiltInName),
     Connect(Connect),
 }
 

@@ -4,7 +4,7 @@ ghost use Rattle.toml.specs.View.{table_view};
 ghost use Rattle.service_files.specs.Reads.{Reads};
 ghost use Rattle.service_files.specs.Says.{at_reset_of, builtin_of, SaysHost, SaysConnect, SaysService, SaysUserData, SaysCaller};
 
-use crate::file::{BuiltIn, CallerTable, Connect, HostService, ServiceTable};
+use crate::file::{BuiltInName, CallerTable, Connect, HostService, ServiceTable};
 use crate::keys::{CALLER, OF_CONNECT, SERVICE};
 use crate::places::{Place, look_at, refuse_keys, tell_at, tell_place};
 use crate::refusal::Refusal;
@@ -69,13 +69,13 @@ fn read_host_service(out: &mut String, place: Place, table: &Table) -> Result<Ho
     }
 }
 
-fn builtin_of(word: &str) -> BuiltIn
+fn builtin_of(word: &str) -> BuiltInName
     ensures { result ≡ builtin_of word.now }
 {
     match word {
-        "echo" => BuiltIn::Echo,
-        "time" => BuiltIn::Time,
-        _ => BuiltIn::Discard,
+        "echo" => BuiltInName::Echo,
+        "time" => BuiltInName::Time,
+        _ => BuiltInName::Discard,
     }
 }
 

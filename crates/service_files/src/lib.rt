@@ -20,7 +20,7 @@ mod values;
 pub use addresses::{Allow, Prefix};
 pub use checking::{check_service, network_name};
 pub use file::{
-    BuiltIn, CallerTable, CaptureTable, Connect, End, HostService, LineTable, ServiceFile,
+    BuiltInName, CallerTable, CaptureTable, Connect, End, HostService, LineTable, ServiceFile,
     ServiceTable, TerminalsTable, UdpWay, Way, XotWay,
 };
 pub use line_rules::{BrokenLine, LineRule, first_broken_line, own_nodes};

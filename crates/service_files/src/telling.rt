@@ -1,5 +1,7 @@
 //! How a rule that does not hold, and what fits, are told.
-use crate::file::{BuiltIn, CallerTable, HostService, ServiceFile, ServiceTable, TerminalsTable};
+use crate::file::{
+    BuiltInName, CallerTable, HostService, ServiceFile, ServiceTable, TerminalsTable,
+};
 use crate::line_telling::tell_line;
 use crate::rules::{BrokenBinding, CallerRule, ServiceRule, TerminalsRule, last_of, terminals_in};
 use net_config::Config;
@@ -203,10 +205,10 @@ fn tell_host_service(out: &mut String, service: HostService) -> Result<(), Alloc
     }
 }
 
-fn name_of(builtin: BuiltIn) -> &'static str {
+fn name_of(builtin: BuiltInName) -> &'static str {
     match builtin {
-        BuiltIn::Echo => "echo",
-        BuiltIn::Time => "time",
-        BuiltIn::Discard => "discard",
+        BuiltInName::Echo => "echo",
+        BuiltInName::Time => "time",
+        BuiltInName::Discard => "discard",
     }
 }

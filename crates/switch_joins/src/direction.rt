@@ -4,7 +4,7 @@ ghost use Rattle.flow_window.specs.Pool.{Holds, Balances, in_use};
 ghost use Rattle.std.specs.Bool.{OnTrue};
 ghost use Rattle.epochs.specs.Item.{DataPacket};
 ghost use Rattle.data_transfer.specs.Held.{are_short};
-ghost use Rattle.switch_joins.specs.Direction.{carried, passed, more_sent, kept_places, covered_by, releasable, released};
+ghost use Rattle.switch_joins.specs.Direction.{carried, more_sent, kept_places, covered_by, releasable, released};
 ghost use Rattle.switch_joins.specs.Held.{direction_in, gathered_in, buffers_in, IsPart};
 ghost use Rattle.switch_joins.specs.Outline.{outline_of};
 ghost use Rattle.switch_joins.specs.Turning.{all_made, nothing_gathered, turned};
@@ -14,7 +14,7 @@ use crate::plan::{self, Outline};
 use crate::sizes::Sizes;
 use crate::turned::Turned;
 use arrayvec::ArrayVec;
-use data_transfer::UserData;
+use data_transfer::AnyUserData;
 use flow_window::pool::Pool;
 use std::marker::Model;
 
@@ -119,7 +119,7 @@ impl Direction {
     }
 
     /// What becomes of a packet.
-    pub(crate) fn turned(&self, sizes: Sizes, packet: &UserData, pool: &Pool) -> Turned
+    pub(crate) fn turned(&self, sizes: Sizes, packet: &AnyUserData, pool: &Pool) -> Turned
         requires { Holds pool.now (buffers_in self.now.gathered) }
         ensures { result ≡ turned sizes (gathered_in self.now.gathered) packet.now }
     {
@@ -136,15 +136,6 @@ impl Direction {
         }
     }
 
-    /// A packet was taken and sent on as it is.
-    pub(crate) fn pass(&mut self, delivery: bool)
-        requires { length (gathered_in self.old.gathered).octets ≡ 0 }
-        ensures direction { direction_in self.new ≡ passed delivery (direction_in self.old) }
-        ensures gathered { self.new.gathered ≡ self.old.gathered }
-    {
-        self.send(delivery, 1);
-    }
-
     /// A packet was taken, with D = 1 or without, and what it makes due was sent.
     pub(crate) fn carry(&mut self, delivery: bool, turned: &Turned, pool: &mut Pool)
         requires holds { Holds pool.old (buffers_in self.old.gathered) }
@@ -159,7 +150,7 @@ impl Direction {
     }
 
     /// A packet was taken, with D = 1 or without, and so many packets were sent for it.
-    fn send(&mut self, delivery: bool, count: usize)
+    pub(crate) fn send(&mut self, delivery: bool, count: usize)
         ensures direction { self.new ≡ record self.old {
           held = kept_places
               (self.old.held ++ (if delivery then more_sent count self.old.outstanding else 0) ∷ []);

@@ -16,7 +16,7 @@ use crate::direction::Direction;
 use crate::plan::{self, Outline};
 use crate::sizes::Sizes;
 use crate::turned::Turned;
-use data_transfer::UserData;
+use data_transfer::AnyUserData;
 use flow_window::pool::Pool;
 use std::marker::Model;
 
@@ -133,7 +133,7 @@ impl ChannelJoin {
     }
 
     /// What becomes of a packet.
-    pub(crate) fn turned(&self, sizes: Sizes, packet: &UserData, pool: &Pool) -> Turned
+    pub(crate) fn turned(&self, sizes: Sizes, packet: &AnyUserData, pool: &Pool) -> Turned
         requires { Holds pool.now (buffers_of self.now) }
         ensures { result ≡ turned sizes (gathered_by (joined_in self.now)) packet.now }
     {
@@ -150,7 +150,7 @@ impl ChannelJoin {
         ensures held { buffers_of self.new ≡ buffers_of self.old }
     {
         if let Some(join) = &mut self.join {
-            join.kept.pass(delivery);
+            join.kept.send(delivery, 1);
         }
     }
 

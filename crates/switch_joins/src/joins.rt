@@ -19,7 +19,7 @@ use crate::join::{ChannelJoin, Joined};
 use crate::plan::{self, Outline};
 use crate::sizes::Sizes;
 use crate::turned::Turned;
-use data_transfer::UserData;
+use data_transfer::AnyUserData;
 use flow_window::pool::Pool;
 use std::alloc::{AllocError, Global};
 use std::marker::Model;
@@ -151,7 +151,7 @@ impl Joins {
     }
 
     /// What becomes of a packet from a channel: the packets that it makes due, and what is gathered after it.
-    pub fn turned(&self, channel: u8, sizes: Sizes, packet: &UserData, pool: &Pool) -> Turned
+    pub fn turned(&self, channel: u8, sizes: Sizes, packet: &AnyUserData, pool: &Pool) -> Turned
         requires { Holds pool.now self.now.held }
         ensures { result ≡ turned sizes (gathered_by (nth_joined self.now.joined channel)) packet.now }
     {

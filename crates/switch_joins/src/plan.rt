@@ -36,7 +36,7 @@ impl Plan {
         ensures waits { result.rest_waits ≡ true → 1 ≤ packet.length }
         ensures joined { result.gathered_first ≡ false → packet.length ≤ 1024 → gathered + packet.length ≤ 1024 }
     {
-        let (near, far) = (sizes.near(), sizes.far());
+        let (near, far) = (usize::from(sizes.near()), usize::from(sizes.far()));
         let length = usize::from(packet.length);
         if near == far && gathered == 0 {
             return Plan {
@@ -74,7 +74,7 @@ pub(crate) fn due(sizes: Sizes, gathered: usize, qualified: bool, packet: Outlin
         (λ count. (are_short sizes.far (turned sizes g d).made ≡ true) × (count ≡ length (turned sizes g d).made)) }
 {
     let plan = Plan::new(sizes, gathered, qualified, packet);
-    if plan.is_long(gathered, sizes.far()) {
+    if plan.is_long(gathered, usize::from(sizes.far())) {
         return None;
     }
     let rest = rest_length(plan.gathered_first, gathered, usize::from(packet.length));

@@ -35,18 +35,18 @@ impl Sizes {
         Sizes { near, far }
     }
 
-    pub(crate) fn near(self) -> usize
+    pub(crate) fn near(self) -> u16
         ensures value { result ≡ self.near }
         ensures some { 1 ≤ result }
     {
-        usize::from(self.near)
+        self.near
     }
 
-    pub(crate) fn far(self) -> usize
+    pub(crate) fn far(self) -> u16
         ensures value { result ≡ self.far }
         ensures some { 1 ≤ result }
         ensures most { result ≤ 1024 }
     {
-        usize::from(self.far)
+        self.far
     }
 }

@@ -11,7 +11,7 @@ use crate::gathering::Gathering;
 use crate::plan::{Outline, Plan, pieces};
 use crate::sizes::Sizes;
 use arrayvec::ArrayVec;
-use data_transfer::UserData;
+use data_transfer::AnyUserData;
 use flow_window::pool::Pool;
 use packet_channel::Request;
 use std::marker::Model;
@@ -87,7 +87,12 @@ fn first_piece(
 
 impl Turned {
     /// What becomes of a packet, if these octets are gathered, with Q or without.
-    pub(crate) fn new(sizes: Sizes, gathered: &[u8], qualified: bool, packet: &UserData) -> Turned
+    pub(crate) fn new(
+        sizes: Sizes,
+        gathered: &[u8],
+        qualified: bool,
+        packet: &AnyUserData,
+    ) -> Turned
         requires { length gathered.now ≤ 1024 }
         ensures { result ≡ turned sizes (record { octets = gathered.now; qualified = qualified }) packet.now }
     {

@@ -1,8 +1,7 @@
 -- The end of an event: links that are set up anew, and rounds of offering.
 use Rattle.std.proofs.Common.{◌≡◌, ℕ, zero, suc, ◌+◌, ◌-◌, ◌*◌, ◌<◌, ◌≤◌, ◌⊎◌, inl, inr, Bool, true, false}
-use Rattle.std.proofs.Common.{if◌then◌else◌, ◌&&◌, ◌||◌, ◌==◌, List, [], ◌∷◌, map, length, take, drop, ◌++◌, refl, sym}
+use Rattle.std.proofs.Common.{if◌then◌else◌, ◌&&◌, ◌||◌, List, [], ◌∷◌, map, length, take, drop, ◌++◌, refl, sym}
 use Rattle.std.proofs.Common.{ap, ap₂, ◌∙◌, true≢false, arith, Option, Some, None, is_some}
-use Rattle.std.proofs.lemmas.Bool.{eqb-true}
 use Rattle.std.proofs.lemmas.Option.{none-some, same_Some}
 use Rattle.std.proofs.lemmas.List.{append-nil}
 use Rattle.std.specs.List.{list_any}
@@ -190,13 +189,6 @@ all_changed f i xs ys h e = e ∙ over f i xs h
 
 -- none took one, or some did
 
-pub none_of : (n m : ℕ) (b : Bool) → n ≡ m → b ≡ (n == 0) → b ≡ true → m ≡ 0
-none_of n m b e is t = let none = eqb-true n 0 (sym is ∙ t) in omega (arith, none, e)
-
-pub some_of : (n m : ℕ) (b : Bool) → n ≡ m → b ≡ (n == 0) → b ≡ false → 1 ≤ m
-some_of zero m b e is f = absurd (true≢false (sym is ∙ f))
-some_of (suc n) m b e is f = omega (arith, e)
-
 pub none_offering : (n : ℕ) (ls : List SwitchLine) → length (offering_from n ls) ≡ 0 → list_any may_offer ls ≡ false
 none_offering n [] e = refl
 none_offering n (l ∷ ls) e = by_line (may_offer l) e (λ h. none_offering (suc n) ls h)
@@ -226,8 +218,13 @@ rounds_begin n ls ms lines is e =
     ap (λ (k : ℕ). rounds_after k ls) whole ∙ ap (λ (xs : List SwitchLine). rounds_after (7 * length ms) xs) e
     ∙ rounds_are (7 * length ms) lines ms
 
-pub relayed_same : (lines : List ℕ) (ls ms : List SwitchLine) → ls ≡ relayed_alone lines ms → length ls ≡ length ms
-relayed_same lines ls ms e = ap (λ (xs : List SwitchLine). length xs) e ∙ relayed_length lines ms
+-- the lines that come first are relayed before all else
+pub offered_first : (lines : List ℕ) (ls : List SwitchLine) → offered_alone [] (relayed_alone lines ls) ≡ offered_alone lines ls
+offered_first lines ls =
+    let ms = relayed_alone lines ls in
+    sym (rounds_are (7 * length ms) [] ms)
+    ∙ ap (λ (n : ℕ). rounds_after (7 * n) ms) (relayed_length lines ls)
+    ∙ rounds_are (7 * length ls) lines ls
 
 past : {X : Type 0} (i : ℕ) (xs : List X) → length xs ≤ i → drop i xs ≡ []
 past zero [] h = refl

@@ -1,5 +1,5 @@
 -- What is left to do on the lines of a switch, after each call.
-use Rattle.std.proofs.Common.{◌≡◌, ℕ, zero, suc, ◌+◌, ◌<◌, ◌≤◌, Bool, true, false, if◌then◌else◌, ◌||◌, ◌==◌, List, []}
+use Rattle.std.proofs.Common.{◌≡◌, ℕ, zero, suc, ◌+◌, ◌<◌, ◌≤◌, Bool, true, false, if◌then◌else◌, ◌&&◌, ◌||◌, ◌==◌, List, []}
 use Rattle.std.proofs.Common.{◌∷◌, ◌++◌, map, take, drop, length, set, get_or, refl, sym, ap, subst, ◌∙◌, true≢false}
 use Rattle.std.proofs.Common.{arith, inl, inr}
 use Rattle.std.specs.Prelude.{◌⊎◌, Option, Some, None, nat_lt, slice_get}
@@ -11,15 +11,15 @@ use Rattle.packet_end.specs.PacketEnd.{begun, settled, all_offered}
 use Rattle.number_set.specs.declared.NumberSet.{NumberSet}
 use Rattle.number_set.specs.NumberSet.{has}
 use Rattle.switch_lines.specs.Lines.{SwitchLine}
-use Rattle.switch_lines.specs.Switch.{with_end, may_offer, offering_from, raised, to_relink, frames_on}
-use Rattle.switch_lines.specs.Touched.{AreThere, IsSettled, IsTaken, NothingElseIsLeft, changed_in, offering_in}
+use Rattle.switch_lines.specs.Switch.{with_end, may_offer, raised, to_relink, frames_on}
+use Rattle.switch_lines.specs.Touched.{AreThere, IsSettled, IsTaken, NothingElseIsLeft, changed_in, offers_on}
 use Rattle.switch_lines.specs.Touched.{first_to_relink, HasAllFrames}
 use Rattle.switch_lines.proofs.Changing.{there}
 use Rattle.switch_lines.proofs.Ending.{written, offer_none}
 use Rattle.switch_joins.proofs.Apart.{decided}
 use Rattle.switch_lines.proofs.Settling.{stays_settled, is_settled, stays_taken}
 use Rattle.switch_lines.proofs.Touched.{count_written, written_here, written_other, all_are_changed, others_same}
-use Rattle.switch_lines.proofs.Touched.{same_count, all_offering_in, all_asking}
+use Rattle.switch_lines.proofs.Touched.{same_count, all_asking}
 
 abbrev pub Lines : Type 0
 Lines = List SwitchLine
@@ -303,9 +303,18 @@ no_frames s t u xs both h n out = by (slice_get xs n) refl
         (h.taken n l neither.0 neither.1 found).frames
 
 -- what is offered, and which link has to be set up anew
-pub offering_all : (s u : NumberSet) (xs : Lines) → NothingElseIsLeft s u xs → offering_in s 0 xs ≡ offering_from 0 xs
-offering_all s u xs h = all_offering_in s 0 xs (λ i l out found. let here : i ≡ 0 + i = omega arith in
-    (h.settled i l (ap (λ n. has s n) here ∙ out) found).offered)
+pub offering_all : (s u : NumberSet) (xs : Lines) → NothingElseIsLeft s u xs → (n : ℕ) →
+    (has s n && offers_on (slice_get xs n)) ≡ offers_on (slice_get xs n)
+offering_all s u xs h n = by_test (decided (has s n))
+  where
+    untouched : (o : Option SwitchLine) → slice_get xs n ≡ o → has s n ≡ false → offers_on o ≡ false
+    untouched None at out = refl
+    untouched (Some l) at out = (h.settled n l out at).offered
+
+    by_test : (has s n ≡ true) ⊎ (has s n ≡ false) →
+        (has s n && offers_on (slice_get xs n)) ≡ offers_on (slice_get xs n)
+    by_test (inl is) = ap (λ (b : Bool). b && offers_on (slice_get xs n)) is
+    by_test (inr out) = ap (λ (b : Bool). b && offers_on (slice_get xs n)) out ∙ sym (untouched (slice_get xs n) refl out)
 
 pub offered_all : (s u : NumberSet) (xs : Lines) → NothingElseIsLeft s u xs →
     changed_in s (with_end all_offered) 0 xs ≡ map (with_end all_offered) xs

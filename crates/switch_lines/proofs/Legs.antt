@@ -136,7 +136,7 @@ all_channels items ls n k l e within is count =
 
 -- ---- one line more
 
-next_line : (n : ℕ) (ns : List ℕ) (ls : List SwitchLine) →
+pub next_line : (n : ℕ) (ns : List ℕ) (ls : List SwitchLine) →
     (let own = legs_at (places_of n (slice_get ls n)) ls in relayed_from (legs_of ns (relayed_from own ls)) (relayed_from own ls) ≡ relayed_from (legs_of (n ∷ ns) ls) ls)
 next_line n ns ls =
     let own = legs_at (places_of n (slice_get ls n)) ls in

@@ -17,3 +17,4 @@ pub mod Left
 pub mod Calmer
 pub mod Waiting
 pub mod Moving
+pub mod Members

@@ -1,22 +1,22 @@
 -- Some lines of a switch, one after the other, and what is left to do on the others.
-use Rattle.std.proofs.Common.{◌≡◌, ℕ, zero, suc, ◌+◌, ◌<◌, ◌≤◌, Bool, true, false, not, if◌then◌else◌, ◌&&◌, ◌==◌, List}
-use Rattle.std.proofs.Common.{[], ◌∷◌, ◌++◌, map, length, set, get_or, refl, sym, ap, ap₂, subst, ◌∙◌, true≢false}
+use Rattle.std.proofs.Common.{◌≡◌, ℕ, zero, suc, ◌+◌, ◌<◌, ◌≤◌, Bool, true, false, not, if◌then◌else◌, ◌&&◌, ◌||◌, ◌==◌, List}
+use Rattle.std.proofs.Common.{[], ◌∷◌, map, length, set, get_or, refl, sym, ap, ap₂, subst, ◌∙◌}
 use Rattle.std.proofs.Common.{arith, inl, inr}
 use Rattle.std.specs.Prelude.{◌⊎◌, Option, Some, None, slice_get}
-use Rattle.std.proofs.lemmas.Bool.{eq-eqb, ne_eqb, cases_eq, cases_lt}
+use Rattle.std.proofs.lemmas.Bool.{eq-eqb, ne_eqb, cases_eq}
 use Rattle.std.proofs.lemmas.Option.{none-some, same_Some}
 use Rattle.packet_layer.specs.LayerTimers.{TimersAgree}
 use Rattle.number_set.specs.declared.NumberSet.{NumberSet}
 use Rattle.number_set.specs.NumberSet.{has, IsFirstOf}
 use Rattle.switch_lines.specs.Lines.{SwitchLine, changed}
-use Rattle.switch_lines.specs.Switch.{may_offer, raised, to_relink, offering_from}
-use Rattle.switch_lines.specs.Touched.{AreThere, changed_in, offering_in, first_to_relink}
+use Rattle.switch_lines.specs.Switch.{may_offer, raised, to_relink}
+use Rattle.switch_lines.specs.Touched.{AreThere, changed_in, first_to_relink, offers_on}
 use Rattle.switch_lines.proofs.Changing.{changed_here, there}
 use Rattle.switch_joins.proofs.ChannelSets.{and_yes}
 
 -- ---- one line is taken out of a set
 
-is_out : (s rest : NumberSet) (line : ℕ) → IsFirstOf s line rest → has rest line ≡ false
+pub is_out : (s rest : NumberSet) (line : ℕ) → IsFirstOf s line rest → has rest line ≡ false
 is_out s rest line first = first.others line ∙ ap (λ (b : Bool). has s line && not b) (eq-eqb line line refl)
     ∙ and_no (has s line)
   where
@@ -24,7 +24,7 @@ is_out s rest line first = first.others line ∙ ap (λ (b : Bool). has s line &
     and_no true = refl
     and_no false = refl
 
-is_same : (s rest : NumberSet) (line n : ℕ) → IsFirstOf s line rest → (n ≡ line → ⊥) → has rest n ≡ has s n
+pub is_same : (s rest : NumberSet) (line n : ℕ) → IsFirstOf s line rest → (n ≡ line → ⊥) → has rest n ≡ has s n
 is_same s rest line n first apart = first.others n ∙ ap (λ (b : Bool). has s n && not b) (ne_eqb n line apart)
     ∙ and_yes (has s n)
 
@@ -92,66 +92,6 @@ others_same s f k zero (x ∷ xs) out =
 others_same s f k (suc i) (x ∷ xs) out =
     let next : suc k + i ≡ k + suc i = omega arith in
     others_same s f (suc k) i xs (ap (λ n. has s n) next ∙ out)
-
--- ---- which links take a packet
-
-abbrev pub shown : Bool → ℕ → List ℕ
-shown b n = if b then n ∷ [] else []
-
-offering_beyond : (s rest : NumberSet) (line : ℕ) → IsFirstOf s line rest → (k : ℕ) (ls : List SwitchLine) → line < k →
-    offering_in rest k ls ≡ offering_in s k ls
-offering_beyond s rest line first k [] beyond = refl
-offering_beyond s rest line first k (l ∷ ls) beyond =
-    ap₂ (λ (b : Bool) ns. if b && may_offer l then k ∷ ns else ns) (is_same s rest line k first (λ e. omega (arith, e)))
-    (offering_beyond s rest line first (suc k) ls (omega arith))
-
--- the first line of a set is the first that may be among them
-pub one_offering : (s rest : NumberSet) (line : ℕ) → IsFirstOf s line rest →
-    (f : SwitchLine → SwitchLine) (k i : ℕ) (ls : List SwitchLine) (l : SwitchLine) → k + i ≡ line →
-    slice_get ls i ≡ Some l →
-    shown (may_offer l) line ++ offering_in rest k (changed i f ls) ≡ offering_in s k ls
-one_offering s rest line first f k i [] l at is = absurd (none-some l is)
-one_offering s rest line first f k zero (x ∷ xs) l at is =
-    let here : k ≡ line = omega arith in
-    let rest_is = ap (λ (b : Bool). if b && may_offer (f x) then k ∷ offering_in rest (suc k) xs else offering_in rest
-    (suc k) xs) (ap (λ n. has rest n) here ∙ is_out s rest line first) in
-    ap₂ (λ (y : SwitchLine) (ns : List ℕ). shown (may_offer y) line ++ ns) (sym (same_Some x l is)) (rest_is
-    ∙ offering_beyond s rest line first (suc k) xs (omega arith))
-    ∙ (by_test (may_offer x) here ∙ sym (ap (λ (b : Bool). if b && may_offer x then k ∷ offering_in s (suc k) xs else
-    offering_in s (suc k) xs) (ap (λ n. has s n) here ∙ first.there)))
-  where
-    by_test : (b : Bool) → k ≡ line → shown b line ++ offering_in s (suc k) xs ≡
-        (if b then k ∷ offering_in s (suc k) xs else offering_in s (suc k) xs)
-    by_test true e = ap (λ (n : ℕ). n ∷ offering_in s (suc k) xs) (sym e)
-    by_test false e = refl
-one_offering s rest line first f k (suc i) (x ∷ xs) l at is =
-    let out = first.first k (omega arith) in
-    let out_too = is_same s rest line k first (λ e. omega (arith, e)) ∙ out in
-    ap (λ (b : Bool). shown (may_offer l) line ++ (if b && may_offer x then k ∷ offering_in rest (suc k)
-    (changed i f xs) else offering_in rest (suc k) (changed i f xs))) out_too
-    ∙ (one_offering s rest line first f (suc k) i xs l (omega arith) is
-    ∙ sym (ap (λ (b : Bool). if b && may_offer x then k ∷ offering_in s (suc k) xs else offering_in s (suc k) xs) out))
-
-pub none_offering_in : (s : NumberSet) (k : ℕ) (ls : List SwitchLine) → ((n : ℕ) → has s n ≡ false) →
-    offering_in s k ls ≡ []
-none_offering_in s k [] none = refl
-none_offering_in s k (l ∷ ls) none =
-    ap (λ (b : Bool). if b && may_offer l then k ∷ offering_in s (suc k) ls else offering_in s (suc k) ls) (none k)
-    ∙ none_offering_in s (suc k) ls none
-
-pub all_offering_in : (s : NumberSet) (k : ℕ) (ls : List SwitchLine) → ((i : ℕ) (l : SwitchLine) → has s (k + i) ≡ false →
-    slice_get ls i ≡ Some l → may_offer l ≡ false) → offering_in s k ls ≡ offering_from k ls
-all_offering_in s k [] others = refl
-all_offering_in s k (l ∷ ls) others =
-    let here : k + 0 ≡ k = omega arith in
-    let more = all_offering_in s (suc k) ls (λ i y out is. let next : k + suc i ≡ suc k + i = omega arith in
-    others (suc i) y (ap (λ n. has s n) next ∙ out) is) in
-    ap₂ (λ (b : Bool) (ns : List ℕ). if b then k ∷ ns else ns) (by_test (has s k) (may_offer l)
-    (λ out. others 0 l (ap (λ n. has s n) here ∙ out) refl)) more
-  where
-    by_test : (b o : Bool) → (b ≡ false → o ≡ false) → (b && o) ≡ o
-    by_test true o e = refl
-    by_test false o e = sym (e refl)
 
 -- ---- which line asks for a new link
 
@@ -298,58 +238,47 @@ found_at [] n x within = absurd (omega arith)
 found_at (y ∷ ys) zero x within = refl
 found_at (y ∷ ys) (suc n) x within = found_at ys n x (omega arith)
 
-one_joined : (xs : List ℕ) (x : ℕ) (ys : List ℕ) → (xs ++ x ∷ []) ++ ys ≡ xs ++ x ∷ ys
-one_joined [] x ys = refl
-one_joined (z ∷ zs) x ys = ap (λ (ws : List ℕ). z ∷ ws) (one_joined zs x ys)
+-- ---- which links take a packet
 
-offer_written : (s rest : NumberSet) (line : ℕ) (f : SwitchLine → SwitchLine) (xs : List SwitchLine)
-    (old new : SwitchLine) (took : Bool) → IsFirstOf s line rest → AreThere s xs →
-    old ≡ get_or xs line old → new ≡ f (get_or xs line old) → took ≡ may_offer (get_or xs line old) →
-    shown took line ++ offering_in rest 0 (set xs line new) ≡ offering_in s 0 xs
-offer_written s rest line f xs old new took first within is done offers =
-    let inside = within line first.there in
-    ap₂ (λ (b : Bool) (ys : List SwitchLine). shown b line ++ offering_in rest 0 ys) offers
-    (changed_here f xs line old new inside is (done ∙ ap f (sym is)))
-    ∙ one_offering s rest line first f 0 line xs (get_or xs line old) (omega arith) (found_at xs line old inside)
+or_left : (b : Bool) → (b || false) ≡ b
+or_left true = refl
+or_left false = refl
 
-pub offer_some : (items : List ℕ) (s rest : NumberSet) (line : ℕ) (f : SwitchLine →
-    SwitchLine) (xs : List SwitchLine) (old new : SwitchLine) (took : Bool) → IsFirstOf s line rest → AreThere s xs →
-    old ≡ get_or xs line old → new ≡ f (get_or xs line old) → took ≡ may_offer (get_or xs line old) → took ≡ true →
-    (items ++ line ∷ []) ++ offering_in rest 0 (set xs line new) ≡ items ++ offering_in s 0 xs
-offer_some items s rest line f xs old new took first within is done offers some =
-    one_joined items line (offering_in rest 0 (set xs line new))
-    ∙ ap (λ (ns : List ℕ). items ++ ns) (ap (λ (b : Bool). shown b line ++ offering_in rest 0 (set xs line new))
-    (sym some) ∙ offer_written s rest line f xs old new took first within is done offers)
-
-pub offer_none : (items : List ℕ) (s rest : NumberSet) (line : ℕ) (f : SwitchLine →
-    SwitchLine) (xs : List SwitchLine) (old new : SwitchLine) (took : Bool) → IsFirstOf s line rest → AreThere s xs →
-    old ≡ get_or xs line old → new ≡ f (get_or xs line old) → took ≡ may_offer (get_or xs line old) → took ≡ false →
-    items ++ offering_in rest 0 (set xs line new) ≡ items ++ offering_in s 0 xs
-offer_none items s rest line f xs old new took first within is done offers none =
-    ap (λ (ns : List ℕ). items ++ ns) (ap (λ (b : Bool). shown b line ++ offering_in rest 0 (set xs line new))
-    (sym none) ∙ offer_written s rest line f xs old new took first within is done offers)
-
--- each line that is in the list is behind those that were there before
-pub room_some : (s rest : NumberSet) (line len count : ℕ) → IsFirstOf s line rest → ((n : ℕ) → n < len → has s n ≡ false)
-    → count ≡ len + 1 → (n : ℕ) → n < count → has rest n ≡ false
-room_some s rest line len count first room is n less = by_place (cases_eq n line) (cases_lt line len)
+-- the first line of a set is offered a packet, and is among those that took one if it did
+pub one_offered : (s rest : NumberSet) (line : ℕ) (xs : List SwitchLine) (old new : SwitchLine) (took before after : Bool)
+    (n : ℕ) → IsFirstOf s line rest → AreThere s xs → took ≡ may_offer (get_or xs line old) →
+    after ≡ (before || (took && n == line)) →
+    (after || (has rest n && offers_on (slice_get (set xs line new) n))) ≡
+    (before || (has s n && offers_on (slice_get xs n)))
+one_offered s rest line xs old new took before after n first within offers adds = by_line (cases_eq n line)
   where
-    by_place : (n ≡ line) ⊎ (n ≡ line → ⊥) → (line < len) ⊎ (len ≤ line) → has rest n ≡ false
-    by_place at (inl before) = absurd (true≢false (sym first.there ∙ room line before))
-    by_place (inl e) (inr behind) = ap (λ k. has rest k) e ∙ is_out s rest line first
-    by_place (inr apart) (inr behind) = is_same s rest line n first apart
-        ∙ first.first n (omega (arith, apart, less, is))
+    by_line : (n ≡ line) ⊎ (n ≡ line → ⊥) → (after || (has rest n && offers_on (slice_get (set xs line new) n))) ≡
+        (before || (has s n && offers_on (slice_get xs n)))
+    by_line (inl e) =
+        let out = ap (λ k. has rest k) e ∙ is_out s rest line first in
+        let in_it = ap (λ k. has s k) e ∙ first.there in
+        let found = ap (λ k. slice_get xs k) e ∙ found_at xs line old (within line first.there) in
+        ap₂ (λ (a b : Bool). a || (b && offers_on (slice_get (set xs line new) n)))
+        (adds ∙ ap (λ (b : Bool). before || (took && b)) (eq-eqb n line e)) out
+        ∙ at_line took
+        ∙ ap (λ (b : Bool). before || b) (offers ∙ ap (λ (o : Option SwitchLine). offers_on o) (sym found))
+        ∙ ap (λ (b : Bool). before || (b && offers_on (slice_get xs n))) (sym in_it)
+      where
+        at_line : (t : Bool) → ((before || (t && true)) || false) ≡ (before || t)
+        at_line true = or_left (before || true)
+        at_line false = or_left (before || false)
+    by_line (inr apart) =
+        ap₂ (λ (a b : Bool). a || (b && offers_on (slice_get (set xs line new) n)))
+        (adds ∙ ap (λ (b : Bool). before || (took && b)) (ne_eqb n line apart) ∙ no_line took)
+        (is_same s rest line n first apart)
+        ∙ ap (λ (o : Option SwitchLine). before || (has s n && offers_on o)) (written_other xs line n new apart)
+      where
+        no_line : (t : Bool) → (before || (t && false)) ≡ before
+        no_line true = or_left before
+        no_line false = or_left before
 
-pub room_none : (s rest : NumberSet) (line len : ℕ) → IsFirstOf s line rest → ((n : ℕ) → n < len → has s n ≡ false) →
-    (n : ℕ) → n < len → has rest n ≡ false
-room_none s rest line len first room n less = first.others n ∙ ap (λ (b : Bool). b && not (n == line)) (room n less)
-
-pub few : (s rest : NumberSet) (line len : ℕ) → IsFirstOf s line rest → ((n : ℕ) → n < len → has s n ≡ false) → len ≤ line
-few s rest line len first room = by_place (cases_lt line len)
-  where
-    by_place : (line < len) ⊎ (len ≤ line) → len ≤ line
-    by_place (inl before) = absurd (true≢false (sym first.there ∙ room line before))
-    by_place (inr behind) = behind
+pub none_offered : (s : NumberSet) (n : ℕ) (b o : Bool) → has s n ≡ false → b ≡ (b || (has s n && o))
+none_offered s n b o out = sym (ap (λ (c : Bool). b || (c && o)) out ∙ or_left b)
 
 pub count_kept : {X : Type 0} (xs : List X) (n most : ℕ) (x : X) → length xs ≤ most → length (set xs n x) ≤ most
 count_kept xs n most x within = let count = count_written xs n x in omega (arith, count)

@@ -1,6 +1,6 @@
 -- Which lines of a switch an event has to look at: those on which something happened. On the others nothing is left to
 -- do.
-use Rattle.std.specs.Prelude.{◌≡◌, ℕ, suc, ◌<◌, true, false, ◌&&◌, if◌then◌else◌, List, [], ◌∷◌, length, slice_get}
+use Rattle.std.specs.Prelude.{◌≡◌, ℕ, zero, suc, ◌<◌, Bool, true, false, ◌&&◌, if◌then◌else◌, List, [], ◌∷◌, length, slice_get}
 use Rattle.std.specs.Prelude.{Option, Some, None}
 use Rattle.lapb.specs.Machine.{settle, runs}
 use Rattle.line_end.specs.End.{End}
@@ -51,12 +51,22 @@ abbrev pub changed_in : {X : Type 0} → NumberSet → (X → X) → (line : ℕ
 changed_in s f n [] = []
 changed_in s f n (x ∷ xs) = (if has s n then f x else x) ∷ changed_in s f (suc n) xs
 
--- those of them whose links take a packet
-abbrev pub offering_in : NumberSet → (line : ℕ) → List SwitchLine → List ℕ
-offering_in s n [] = []
-offering_in s n (l ∷ ls) = if has s n && may_offer l then n ∷ offering_in s (suc n) ls else offering_in s (suc n) ls
-
 -- the first of them whose packet layer asks for a link that is set up anew
 abbrev pub first_to_relink : NumberSet → (line : ℕ) → List SwitchLine → Option ℕ
 first_to_relink s n [] = None
 first_to_relink s n (l ∷ ls) = if has s n && l.end.layer.relink then Some n else first_to_relink s (suc n) ls
+
+-- ---- the numbers of a set, rising: those from n on, below n + count, and all
+
+abbrev pub members_from : (n count : ℕ) → NumberSet → List ℕ
+members_from n zero s = []
+members_from n (suc count) s = if has s n then n ∷ members_from (suc n) count s else members_from (suc n) count s
+
+unfoldable pub members : NumberSet → List ℕ
+members s = members_from 0 64 s
+
+-- ---- whether the link of a line takes a packet
+
+abbrev pub offers_on : Option SwitchLine → Bool
+offers_on None = false
+offers_on (Some l) = may_offer l

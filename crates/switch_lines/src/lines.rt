@@ -26,7 +26,6 @@ mod telling;
 mod touched;
 mod turning;
 
-use arrayvec::ArrayVec;
 use flow_window::pool::Pool;
 use frame_codec::{FrameBuf, MAX_INFORMATION};
 use joined_line::{SwitchLine, SwitchLineConfig};
@@ -37,12 +36,6 @@ use packet_layer::{Front, Request};
 use std::alloc::{AllocError, Global};
 use std::marker::Model;
 use switch_joins::{ChannelSet, Joined, MOST_LINES, SwitchChannel};
-
-/// The most lines of a list: all of a switch, and one of them once more.
-const MOST_LISTED: usize = MOST_LINES + 1;
-
-// Lines by number.
-type LineList = ArrayVec<usize, MOST_LISTED>;
 
 /// The lines of a switch, at most 64.
 #[derive(Drop)]

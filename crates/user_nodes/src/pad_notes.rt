@@ -17,8 +17,8 @@ use crate::note::{UserNote, list_pad_note};
 use call_records::{Book, EditStep};
 use epochs::PassedPacket;
 use link_timers::Role;
-use packet_layer::Front;
-use x25_pad::{ChannelNote, Pad, PadData, PadTaken};
+use packet_layer::{Front, UserData};
+use x25_pad::{ChannelNote, Pad, PadTaken};
 
 /// Reads the notes of an event at a PAD, and writes them in order into the book, at the PAD's end of the line. The book
 /// has room for them. `notes` lists what the terminals are told, in order; it is empty before, with a place for each.
@@ -72,9 +72,9 @@ pub fn write_pad_note(book: &mut Book, role: Role, note: &ChannelNote)
 }
 
 /// What a PAD sent or took, as a record has it: a packet of one place.
-fn packet_of(user_data: &PadData) -> PassedPacket<'_>
+fn packet_of<const N: usize>(user_data: &UserData<N>) -> PassedPacket<'_>
     ensures value { data_packet_of result ≡ packet_of user_data.now }
-    ensures fits { length result.octets.now ≤ 128 }
+    ensures fits { length result.octets.now ≤ N }
 {
     PassedPacket {
         octets: user_data.octets(),

@@ -4,3 +4,4 @@ pub mod Blocks
 pub mod Acting
 pub mod Frames
 pub mod Nothing
+pub mod Settling

@@ -1,5 +1,6 @@
 pub mod Pad
 pub mod Sending
+pub mod Settling
 pub mod PadView
 pub mod Making
 pub mod BlocksTaken

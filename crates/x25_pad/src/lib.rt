@@ -10,4 +10,4 @@ pub use answer::PadAnswer;
 pub use config::PadConfig;
 pub use law::block_law;
 pub use pad::Pad;
-pub use pad_ports::{ChannelNote, MOST_NOTES, MOST_TEXT, PadData, PadNote, PadTaken};
+pub use pad_ports::{ChannelNote, MOST_NOTES, MOST_TEXT, PadNote, PadTaken};

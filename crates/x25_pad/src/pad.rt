@@ -14,6 +14,7 @@ mod terminals;
 use crate::config::PadConfig;
 use data_transfer::DEFAULT_SIZE;
 use link_timers::Role;
+use number_set::NumberSet;
 use packet_end::{EndFault, PacketEnd};
 use pad_ports::{ChannelNote, MOST_NOTES, NotedAt, PadLine, PadNote, PadNotes, Port};
 use std::alloc::{AllocError, Global};
@@ -36,6 +37,9 @@ pub struct Pad {
     line: PadLine,
     ports: Vec<Port>,
     noted_at: NotedAt,
+    /// The ports that something touched since they were settled, and those whose terminals still wait to go on. The end
+    /// of an event leaves all others as they are.
+    touched: NumberSet,
 }
 
 impl Model for Pad {
@@ -78,10 +82,12 @@ impl Pad {
         let noted_at = NotedAt::new(alloc)?;
         let end = PacketEnd::new(alloc, Role::Dte, config.line)?;
         let line = PadLine { end, notes };
+        let touched = NumberSet::first(ports.len());
         Ok(Pad {
             line,
             ports,
             noted_at,
+            touched,
         })
     }
 

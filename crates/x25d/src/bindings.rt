@@ -2,7 +2,9 @@
 use crate::bridging::BoundBridges;
 use net_config::{Config, NodeKind, TerminalsConfig};
 use service::{Bindings, BuiltIn, HostBinding, PadBinding, TerminalsBinding};
-use service_files::{HostService, ServiceFile, TerminalsTable, channels_of, last_of, node_of};
+use service_files::{
+    BuiltInName, HostService, ServiceFile, TerminalsTable, channels_of, last_of, node_of,
+};
 use std::alloc::{AllocError, Global};
 use x3_params::Params;
 
@@ -136,9 +138,9 @@ fn channels_at(config: &Config, name: &str) -> u8 {
 fn service_at(file: &ServiceFile<'_>, name: &str) -> Option<BuiltIn> {
     let table = file.services.iter().find(|table| table.host == name)?;
     match table.service {
-        HostService::BuiltIn(service_files::BuiltIn::Echo) => Some(BuiltIn::Echo),
-        HostService::BuiltIn(service_files::BuiltIn::Time) => Some(BuiltIn::Time),
-        HostService::BuiltIn(service_files::BuiltIn::Discard) => Some(BuiltIn::Discard),
+        HostService::BuiltIn(BuiltInName::Echo) => Some(BuiltIn::Echo),
+        HostService::BuiltIn(BuiltInName::Time) => Some(BuiltIn::Time),
+        HostService::BuiltIn(BuiltInName::Discard) => Some(BuiltIn::Discard),
         HostService::Connect(_) => None,
     }
 }

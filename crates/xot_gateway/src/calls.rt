@@ -53,7 +53,7 @@ ghost use Rattle.xot_gateway.specs.Calls.{
 use crate::connection::{Connection, ConnectionCall, Wish};
 use crate::line::XotLine;
 use crate::packets::{
-    read_on, write_clear, write_confirmation, write_restart, write_restart_confirmation,
+    ReadPacket, read_on, write_clear, write_confirmation, write_restart, write_restart_confirmation,
 };
 use crate::states::ChannelState;
 use packet_codec::Content;
@@ -202,12 +202,12 @@ impl XotCalls {
         ensures { HearsOn place (content_view content.now) octets.now self.old self.new }
     {
         let line = self.line;
+        let packet = ReadPacket { content, octets };
         match find_on(self.connections.as_slice(), place) {
             Some(number) => {
                 hear_at(
                     line,
-                    content,
-                    octets,
+                    &packet,
                     place,
                     number,
                     &mut self.channels,
@@ -217,8 +217,7 @@ impl XotCalls {
             None if is_call(content) && is_ready(self.channels.as_slice(), place) => {
                 begin_call(
                     line,
-                    content,
-                    octets,
+                    &packet,
                     place,
                     &mut self.channels,
                     &mut self.connections,
@@ -570,18 +569,17 @@ fn is_call(content: &Content) -> bool
 /// A packet of the line on the channel of a call.
 fn hear_at(
     line: XotLine,
-    content: &Content,
-    octets: &[u8],
+    packet: &ReadPacket<'_>,
     place: u8,
     number: usize,
     channels: &mut Vec<ChannelState>,
     connections: &mut Vec<Connection>,
 )
-    ensures connections { connections.new.items ≡ (heard_at line (content_view content.now) octets.now place number (record { channels = channels.old.items; connections = connections.old.items })).connections }
-    ensures channels { channels.new.items ≡ (heard_at line (content_view content.now) octets.now place number (record { channels = channels.old.items; connections = connections.old.items })).channels }
+    ensures connections { connections.new.items ≡ (heard_at line (content_view packet.now.content.now) packet.now.octets.now place number (record { channels = channels.old.items; connections = connections.old.items })).connections }
+    ensures channels { channels.new.items ≡ (heard_at line (content_view packet.now.content.now) packet.now.octets.now place number (record { channels = channels.old.items; connections = connections.old.items })).channels }
 {
     if let Some(connection) = connections.get_mut(number) {
-        let leaves = connection.hear_on(line, content, octets, place);
+        let leaves = connection.hear_on(line, packet.content, packet.octets, place);
         set_channel(place, leaves, channels);
     }
 }
@@ -589,21 +587,20 @@ fn hear_at(
 /// A Call of the line on a free channel.
 fn begin_call(
     line: XotLine,
-    content: &Content,
-    octets: &[u8],
+    packet: &ReadPacket<'_>,
     place: u8,
     channels: &mut Vec<ChannelState>,
     connections: &mut Vec<Connection>,
 )
-    ensures connections { connections.new.items ≡ (with_call line (content_view content.now) octets.now place (record { channels = channels.old.items; connections = connections.old.items }) (position absent_one connections.old.items)).connections }
-    ensures channels { channels.new.items ≡ (with_call line (content_view content.now) octets.now place (record { channels = channels.old.items; connections = connections.old.items }) (position absent_one connections.old.items)).channels }
+    ensures connections { connections.new.items ≡ (with_call line (content_view packet.now.content.now) packet.now.octets.now place (record { channels = channels.old.items; connections = connections.old.items }) (position absent_one connections.old.items)).connections }
+    ensures channels { channels.new.items ≡ (with_call line (content_view packet.now.content.now) packet.now.octets.now place (record { channels = channels.old.items; connections = connections.old.items }) (position absent_one connections.old.items)).channels }
 {
     let Some(number) = find_absent(connections.as_slice()) else {
         set_channel(place, Some(ChannelState::ToClear(NUMBER_BUSY)), channels);
         return;
     };
     if let Some(connection) = connections.get_mut(number) {
-        let leaves = connection.begin_call(line, content, octets, place);
+        let leaves = connection.begin_call(line, packet.content, packet.octets, place);
         set_channel(place, leaves, channels);
     }
 }

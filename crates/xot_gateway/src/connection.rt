@@ -53,8 +53,8 @@ ghost use Rattle.xot_gateway.specs.declared.connection.ConnectionCall.TheVariant
 
 use crate::line::XotLine;
 use crate::packets::{
-    accepted_facilities, prepare, read_on, write_accepted_over, write_call_over, write_clear,
-    write_confirmation, write_over_line,
+    ReadPacket, accepted_facilities, prepare, read_on, write_accepted_over, write_call_over,
+    write_clear, write_confirmation, write_over_line,
 };
 use crate::states::{
     ChannelState, FirstMove, Move, Phase, Refusal, connection_move, fault_move, line_move,
@@ -431,7 +431,11 @@ impl Connection {
         match read_on(line, octets) {
             Ok(packet) => {
                 let next = connection_move(phase, carried, &packet.content);
-                self.serve_packet(line, &packet.content, octets, place, next, out)
+                let read = ReadPacket {
+                    content: &packet.content,
+                    octets,
+                };
+                self.serve_packet(line, &read, place, next, out)
             }
             Err(_) => match fault_move(phase) {
                 Move::Refuses(refusal) => self.refuse(line, place, refusal),
@@ -440,26 +444,26 @@ impl Connection {
         }
     }
 
+    /// A packet of the connection in its call, which is read.
     fn serve_packet(
         &mut self,
         line: XotLine,
-        content: &Content,
-        octets: &[u8],
+        packet: &ReadPacket<'_>,
         place: u8,
         next: Move,
         out: &mut XotPacket,
     ) -> Served
-        requires whole { length octets.now ≤ MAX_XOT_PACKET }
-        requires short { length (over_line (content_view content.now) octets.now) ≤ most_packet line }
-        ensures connection { self.new ≡ (served_by line (content_view content.now) octets.now place self.old next).connection }
-        ensures answer { result ≡ answer_of (served_by line (content_view content.now) octets.now place self.old next) }
-        ensures out { out.new.items ≡ packet_after out.old.items (served_by line (content_view content.now) octets.now place self.old next) }
+        requires whole { length packet.now.octets.now ≤ MAX_XOT_PACKET }
+        requires short { length (over_line (content_view packet.now.content.now) packet.now.octets.now) ≤ most_packet line }
+        ensures connection { self.new ≡ (served_by line (content_view packet.now.content.now) packet.now.octets.now place self.old next).connection }
+        ensures answer { result ≡ answer_of (served_by line (content_view packet.now.content.now) packet.now.octets.now place self.old next) }
+        ensures out { out.new.items ≡ packet_after out.old.items (served_by line (content_view packet.now.content.now) packet.now.octets.now place self.old next) }
         ensures fits { result.sends ≡ true → length out.new.items ≤ most_packet line }
     {
         match next {
             Move::Drops => QUIET,
             Move::Passes(phase) => {
-                write_over_line(content, octets, out);
+                write_over_line(packet.content, packet.octets, out);
                 self.enter(place, phase);
                 SENDS
             }

@@ -43,6 +43,13 @@ const HEADER: usize = 3;
 /// The length of the facility field that the gateway writes.
 const FACILITIES: u8 = 6;
 
+/// A packet that was read: what it says, and its octets.
+#[derive(Clone, Copy)]
+pub(crate) struct ReadPacket<'a> {
+    pub(crate) content: &'a Content<'a>,
+    pub(crate) octets: &'a [u8],
+}
+
 /// A packet of the connection as the line has it: on the channel of a place, since its own has no meaning, a long Clear
 /// cut to 5 octets, and a long Clear Confirmation to 3. Fewer than three octets are no packet.
 pub(crate) fn prepare(place: u8, octets: &[u8]) -> XotPacket

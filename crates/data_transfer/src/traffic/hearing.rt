@@ -37,7 +37,8 @@ impl Traffic {
         ensures waiting { self.new.traffic.waiting ≡ self.old.traffic.waiting }
     {
         let expected = shown(flow.numbering, self.expected.number());
-        if packet.send != expected || self.unreleased() >= flow.window {
+        let unreleased = self.expected.ahead_of(&self.released);
+        if packet.send != expected || unreleased >= flow.window {
             return Heard::Wrong(diagnostic::INVALID_SEND_NUMBER);
         }
         let Some(newly) = self.cover(flow.numbering, packet.receive) else {

@@ -166,7 +166,7 @@ impl Traffic {
             more: data.more(),
             send: shown(flow.numbering, self.send.next_number()),
             receive: shown(flow.numbering, self.released.number()),
-            user_data: data.octets(pool),
+            user_data: pool.octets(data.buffer()),
         };
         let packet = Packet {
             numbering: flow.numbering,

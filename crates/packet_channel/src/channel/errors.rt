@@ -39,9 +39,9 @@ impl Channel {
         self.traffic.clear(pool);
     }
 
-    /// Clears the call for a fault that was found here. As each step does, it answers whether one control packet too
-    /// many is owed.
-    pub(crate) fn clear_error(
+    /// Clears the call for a fault that was found here, or for a timer that expired. As each step does, it answers
+    /// whether one control packet too many is owed. The user is told if there was a call.
+    pub fn clear_error(
         &mut self,
         end: End,
         diagnostic: u8,
@@ -54,7 +54,8 @@ impl Channel {
         ensures done { IsDone (machine.clear_error end.role end.channel diagnostic had_call self.old.channel)
             self.new.channel result notes.new }
         ensures held { self.new.held ≡ [] }
-        ensures pool { Balances pool.old self.old.held pool.new [] }
+        ensures pool { Balances pool.old self.old.held pool.new self.new.held }
+        ensures fits { (flow : FlowValue) → Fits flow self.old → Fits flow self.new }
     {
         self.end_call(ChannelState::OwnClear, pool);
         let clear = Control::Clear {

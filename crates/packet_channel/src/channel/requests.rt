@@ -197,7 +197,7 @@ impl Channel {
         ensures held { Takes self.old.held packet.buffer (handed_back result) self.new.held }
         ensures fits { Fits flow self.old → Fits flow self.new }
     {
-        if let Err(fault) = self.check_send(flow, packet.octets(pool)) {
+        if let Err(fault) = self.check_send(flow, pool.octets(packet.buffer())) {
             return Err(RefusedBuf { fault, packet });
         }
         self.traffic.queue(packet);

@@ -12,7 +12,7 @@ use crate::restart::{Phase, RestartPacket};
 use flow_window::pool::Pool;
 use link_timers::Role;
 use number_set::NumberSet;
-use packet_channel::Reason;
+use packet_channel::{Owed, Reason};
 use packet_codec::{diagnostic, restart_cause};
 
 impl Layer {
@@ -27,7 +27,7 @@ impl Layer {
     {
         self.notes.clear();
         self.close_all(Reason::LinkLost, pool);
-        self.owed.clear();
+        self.owed = Owed::new();
         self.relink = false;
         let cause = match self.role {
             Role::Dte => restart_cause::DTE_ORIGINATED,
@@ -49,7 +49,7 @@ impl Layer {
         self.close_all(Reason::LinkLost, pool);
         self.phase = Phase::NoSession;
         self.served_last = 0;
-        self.owed.clear();
+        self.owed = Owed::new();
         self.relink = false;
     }
 

@@ -137,7 +137,13 @@ impl Layer {
         let end = self.end(place);
         self.to_serve.insert(place);
         let channel = &mut self.channels[place];
-        let relink = channel.expire(end, pool, &mut self.notes);
+        let relink = channel.clear_error(
+            end,
+            diagnostic::NO_INFORMATION,
+            true,
+            pool,
+            &mut self.notes,
+        );
         self.relink_if(relink);
     }
 }

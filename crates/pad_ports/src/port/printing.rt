@@ -8,9 +8,9 @@ ghost use Rattle.pad_ports.specs.TakenView.{taken_of as value_of, maybe_taken};
 use crate::line::PadLine;
 use crate::note::MOST_NOTES;
 use crate::port::Port;
-use crate::taken::{MOST_OCTETS, PadData, PadTaken};
+use crate::taken::{MOST_OCTETS, PadTaken};
 use arrayvec::ArrayVec;
-use packet_layer::{Front, Request};
+use packet_layer::{Front, Request, UserData};
 use pad_editing::OCTET_LIMIT;
 use pad_terminal::{Reply, TEXT_LIMIT};
 
@@ -124,7 +124,7 @@ impl Port {
     /// A qualified packet is a message, another is shown.
     fn show_data<const N: usize>(
         &mut self,
-        user_data: &PadData,
+        user_data: &UserData<MOST_OCTETS>,
         line: &mut PadLine,
         out: &mut ArrayVec<u8, N>,
     )

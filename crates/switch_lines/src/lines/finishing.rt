@@ -1,29 +1,34 @@
 //! What happens on a line, and the end of an event.
-ghost use Rattle.std.specs.Prelude.{◌≡◌, ℕ, ◌<◌, ◌++◌, true, false, None, Some, drop, length, map, slice_get};
+ghost use Rattle.std.specs.Prelude.{◌≡◌, ℕ, ◌<◌, ◌++◌, [], true, false, None, Some, drop, length, map, slice_get};
 ghost use Rattle.std.specs.List.{list_any};
 ghost use Rattle.arrayvec.specs.ArrayVec.{array_vec_len};
 ghost use Rattle.packet_codec.specs.Reading.{named_channel};
 ghost use Rattle.packet_end.specs.PacketEnd as end;
 ghost use Rattle.switch_lines.specs.NewJoins.{joins_acted};
 ghost use Rattle.switch_lines.specs.ByPlace.{AreRead};
-ghost use Rattle.switch_lines.specs.Alone.{finished_alone, offered_alone};
-ghost use Rattle.switch_lines.specs.Switch.{acted, all_begun, all_relinked, relinks_of, to_relink, offering_from};
-ghost use Rattle.switch_lines.specs.Switch.{may_offer, with_end, without_joins};
+ghost use Rattle.switch_lines.specs.Alone.{finished_alone, offered_alone, relayed_alone};
+ghost use Rattle.switch_lines.specs.Switch.{acted, all_begun, all_relinked, relinks_of, to_relink, lines_first};
+ghost use Rattle.switch_lines.specs.Switch.{may_offer, offering_from, with_end, without_joins};
+ghost use Rattle.switch_lines.specs.Touched.{members};
 
 use crate::lines::reopening::reopen;
-use crate::lines::touched::{
-    begin_lines, first_to_relink, offer_lines, restart_lines, settle_lines,
-};
-use crate::lines::{LineList, Lines, other_of};
+use crate::lines::touched::{begin_lines, offer_lines, restart_lines, settle_lines};
+use crate::lines::{Lines, other_of};
 use address_routes::Routes;
 use arrayvec::ArrayVec;
 use link_timers::TimerId;
 use number_set::NumberSet;
 use packet_codec::logical_channel;
-use switch_joins::{END_OF_CHANNELS, NewJoin, SwitchChannel};
+use switch_joins::{END_OF_CHANNELS, MOST_LINES, NewJoin, SwitchChannel};
 
 /// The most packets that a link has unacknowledged.
 const MOST_PACKETS: usize = 7;
+
+/// The most lines of a list: all of a switch, and one of them once more.
+const MOST_LISTED: usize = MOST_LINES + 1;
+
+// Lines by number.
+type LineList = ArrayVec<usize, MOST_LISTED>;
 
 /// The channel that the packet of an I frame names, if it is one of a line: its packet begins with the third octet. There
 /// is no channel 0.
@@ -92,10 +97,8 @@ impl Lines {
         requires read { AreRead self.old }
         ensures { self.new ≡ finished_alone routes.now line self.old }
     {
-        let mut concerned = ArrayVec::new();
-        concerned.push(line);
-        self.relink_all(routes, &mut concerned);
-        let all_offered = self.relay_and_offer(&concerned);
+        self.relink_and_relay(routes, line);
+        let all_offered = self.offer_and_relay();
         self.settle(all_offered);
     }
 
@@ -111,6 +114,32 @@ impl Lines {
         if all_offered {
             self.touched = NumberSet::new();
         }
+    }
+
+    /// Sets up anew each link of which its packet layer asks for it. Then what waits is relayed on the joins of a line,
+    /// and of the lines of those links.
+    fn relink_and_relay(&mut self, routes: &Routes, line: usize)
+        requires { AreRead self.old }
+        ensures { self.new ≡ relayed_alone (lines_first line routes.now self.old)
+            (all_relinked (length self.old) routes.now self.old) }
+    {
+        match self.to_relink() {
+            Some(_) => self.relay_relinked(routes, line),
+            None => self.relay_line(line),
+        }
+    }
+
+    /// Relinks and relays where a link is to be set up anew, which is rare.
+    #[inline(never)]
+    fn relay_relinked(&mut self, routes: &Routes, line: usize)
+        requires { AreRead self.old }
+        ensures { self.new ≡ relayed_alone (lines_first line routes.now self.old)
+            (all_relinked (length self.old) routes.now self.old) }
+    {
+        let mut concerned = ArrayVec::new();
+        concerned.push(line);
+        self.relink_all(routes, &mut concerned);
+        self.relay_listed(&concerned);
     }
 
     /// Sets up anew each link of which its packet layer asks for it, and adds its line to the list. That may close calls
@@ -135,30 +164,35 @@ impl Lines {
     fn to_relink(&self) -> Option<usize>
         ensures { result ≡ to_relink self.now }
     {
-        first_to_relink(&self.lines, self.touched)
+        let mut which = self.touched;
+        while let Some(line) = which.take_first() {
+            if self.lines[line].must_relink() {
+                return Some(line);
+            }
+        }
+        None
     }
 
-    /// What waits on the joins of these lines is relayed and packets are offered to the links, and then the same for the
-    /// lines whose links took one, until the links take no more. Answers whether that was seen, in as many rounds as
-    /// links of at most seven packets need.
-    fn relay_and_offer(&mut self, concerned: &LineList) -> bool
-        ensures lines { self.new ≡ offered_alone concerned.now.items self.old }
+    /// Packets are offered to the links. What waits on the joins of the lines whose links took one is relayed then, and
+    /// so on until the links take no more. Answers whether that was seen, in as many rounds as links of at most seven
+    /// packets need.
+    fn offer_and_relay(&mut self) -> bool
+        ensures lines { self.new ≡ offered_alone [] self.old }
         ensures all { result ≡ true → list_any may_offer self.new ≡ false }
     {
-        self.relay_lines(concerned);
         for _ in 0..MOST_PACKETS * self.lines.len() {
             let offering = self.offer();
             if offering.is_empty() {
                 return true;
             }
-            self.relay_lines(&offering);
+            self.relay_lines(offering);
         }
         false
     }
 
     /// Offers packets to the links, in the order of the lines, and answers which took one.
-    fn offer(&mut self) -> LineList
-        ensures offering { result.items ≡ offering_from 0 self.old }
+    fn offer(&mut self) -> NumberSet
+        ensures offering { members result ≡ offering_from 0 self.old }
         ensures lines { self.new ≡ map (with_end end.all_offered) self.old }
     {
         reopen(

@@ -5,8 +5,10 @@ ghost use Rattle.switch_lines.specs.Alone.{relayed_alone};
 ghost use Rattle.switch_lines.specs.Lines.{joined_at};
 ghost use Rattle.switch_lines.specs.Waiting.{other_at, IsStuck};
 ghost use Rattle.switch_lines.specs.Relay.{moved, relayed, most_moves, relayed_from, both_legs, legs_at, places_of};
+ghost use Rattle.switch_lines.specs.Touched.{members};
 
 use crate::lines::Lines;
+use number_set::NumberSet;
 use switch_joins::SwitchChannel;
 
 /// The most that waits on a leg: a queue of 32 packets, and an interrupt.
@@ -63,14 +65,6 @@ impl Lines {
         self.to_relay.remove(other);
     }
 
-    /// A channel that is not joined is not to be relayed.
-    fn forget(&mut self, leg: SwitchChannel)
-        requires { other_at self.old leg ≡ None }
-        ensures { self.new ≡ self.old }
-    {
-        self.to_relay.remove(leg);
-    }
-
     /// Whether a channel is joined to another one.
     fn is_joined_to(&self, leg: SwitchChannel, other: SwitchChannel) -> bool
         ensures { OnTrue result (other_at self.now leg ≡ Some other) }
@@ -83,7 +77,7 @@ impl Lines {
         ensures { self.new ≡ relayed_from (both_legs (joined_at self.old leg) leg) self.old }
     {
         let Some(other) = self.other(leg) else {
-            self.forget(leg);
+            self.to_relay.remove(leg);
             return;
         };
         let all = self.relay_channel(leg);
@@ -93,8 +87,9 @@ impl Lines {
         }
     }
 
-    /// The same of all joined channels of a line: those that are to be relayed are all of which anything can go on.
-    fn relay_line(&mut self, line: usize)
+    /// All that waits on the joined channels of a line goes on, and on the other legs of their joins. Only channels
+    /// that are to be relayed have anything that can.
+    pub(super) fn relay_line(&mut self, line: usize)
         ensures { self.new ≡ relayed_from (legs_at (places_of line (slice_get self.old line)) self.old) self.old }
     {
         if line < self.lines.len() {
@@ -107,12 +102,22 @@ impl Lines {
         }
     }
 
-    /// All that waits on the joins of these lines goes to the other leg, as far as that one takes it.
-    pub(super) fn relay_lines(&mut self, lines: &[usize])
+    /// All that waits on the joins of listed lines goes to the other leg, as far as that one takes it: line by line, as
+    /// they are listed.
+    pub(super) fn relay_listed(&mut self, lines: &[usize])
         ensures { self.new ≡ relayed_alone lines.now self.old }
     {
         for line in lines {
             self.relay_line(*line);
+        }
+    }
+
+    /// All that waits on the joins of these lines goes to the other leg, as far as that one takes it.
+    pub(super) fn relay_lines(&mut self, mut lines: NumberSet)
+        ensures { self.new ≡ relayed_alone (members lines) self.old }
+    {
+        while let Some(line) = lines.take_first() {
+            self.relay_line(line);
         }
     }
 }

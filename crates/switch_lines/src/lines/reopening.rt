@@ -27,7 +27,7 @@ pub(super) fn reopen(
     }
 }
 
-/// The same of one line.
+/// No channel of a line is known to refuse anything: the joins of those that were are to be relayed.
 fn reopen_line(
     lines: &[SwitchLine],
     line: usize,

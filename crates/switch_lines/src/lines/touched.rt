@@ -1,19 +1,16 @@
 //! What is done to some lines alone.
-ghost use Rattle.std.specs.Prelude.{◌≡◌, ℕ, ◌<◌, ◌≤◌, true, Some, length, map, slice_get};
+ghost use Rattle.std.specs.Prelude.{◌≡◌, ℕ, ◌&&◌, true, Some, map, slice_get};
 ghost use Rattle.packet_end.specs.PacketEnd as end;
 ghost use Rattle.packet_layer.specs.LayerTimers.{TimersAgree};
 ghost use Rattle.number_set.specs.NumberSet.{has};
 ghost use Rattle.switch_lines.specs.Lines.{SwitchLine as Line};
 ghost use Rattle.switch_lines.specs.Pooled.{plain, on_line, ArePooled};
 ghost use Rattle.switch_lines.specs.Switch.{with_end, without_joins};
-ghost use Rattle.switch_lines.specs.Touched.{AreThere, changed_in, offering_in, first_to_relink};
+ghost use Rattle.switch_lines.specs.Touched.{AreThere, changed_in, offers_on};
 
-use crate::lines::LineList;
-use arrayvec::ArrayVec;
 use flow_window::pool::Pool;
 use joined_line::SwitchLine;
 use number_set::NumberSet;
-use switch_joins::MOST_LINES;
 
 /// Begins an event on these lines.
 pub(super) fn begin_lines(lines: &mut [SwitchLine], mut which: NumberSet)
@@ -44,18 +41,17 @@ pub(super) fn offer_lines(
     lines: &mut [SwitchLine],
     mut which: NumberSet,
     pool: &mut Pool,
-) -> LineList
+) -> NumberSet
     requires there { AreThere which (plain lines.old) }
-    requires most { length lines.old ≤ MOST_LINES }
     requires pool { ArePooled pool.old lines.old }
-    ensures offering { result.items ≡ offering_in which 0 (plain lines.old) }
+    ensures offering { (n : ℕ) → has result n ≡ (has which n && offers_on (slice_get (plain lines.old) n)) }
     ensures lines { plain lines.new ≡ changed_in which (with_end end.all_offered) 0 (plain lines.old) }
     ensures pool { ArePooled pool.new lines.new }
 {
-    let mut offering = ArrayVec::new();
+    let mut offering = NumberSet::new();
     while let Some(line) = which.take_first() {
         if lines[line].offer(pool) {
-            offering.push(line);
+            offering.insert(line);
         }
     }
     offering
@@ -70,17 +66,4 @@ pub(super) fn restart_lines(lines: &mut [SwitchLine], pool: &mut Pool)
     for line in lines.iter_mut() {
         line.restart(pool);
     }
-}
-
-/// The first of these lines whose packet layer asks for a link that is set up anew.
-pub(super) fn first_to_relink(lines: &[SwitchLine], mut which: NumberSet) -> Option<usize>
-    requires { AreThere which (plain lines.now) }
-    ensures { result ≡ first_to_relink which 0 (plain lines.now) }
-{
-    while let Some(line) = which.take_first() {
-        if lines[line].must_relink() {
-            return Some(line);
-        }
-    }
-    None
 }

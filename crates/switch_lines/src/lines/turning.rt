@@ -14,7 +14,7 @@ ghost use Rattle.switch_lines.specs.Waiting.{other_at};
 
 use crate::lines::{Lines, other_of};
 use joined_line::SwitchLine;
-use packet_layer::{Front, Request, Taken, TakenBuf, UserData};
+use packet_layer::{AnyUserData, Front, Request, Taken, TakenBuf};
 use switch_joins::{Outline, Sizes, SwitchChannel};
 
 /// The packet sizes of the lines of two channels.
@@ -28,15 +28,6 @@ fn sizes_of(lines: &[SwitchLine], leg: SwitchChannel, other: SwitchChannel) -> S
 }
 
 impl Lines {
-    /// The packet sizes of the lines of two channels.
-    fn sizes(&self, leg: SwitchChannel, other: SwitchChannel) -> Sizes
-        requires there { leg.line < length self.now }
-        requires other { other.line < length self.now }
-        ensures { result ≡ sizes_at self.now leg other }
-    {
-        sizes_of(&self.lines, leg, other)
-    }
-
     /// Whether the other leg of a join takes every packet that the first one on a channel makes due.
     pub(super) fn may_take(&self, leg: SwitchChannel, other: SwitchChannel, front: Front) -> bool
         requires there { leg.line < length self.now }
@@ -59,7 +50,7 @@ impl Lines {
                     qualified,
                     delivery,
                 };
-                let sizes = self.sizes(leg, other);
+                let sizes = sizes_of(&self.lines, leg, other);
                 let joins = self.lines[leg.line].joins();
                 match joins.due(leg.channel, sizes, packet, &self.pool) {
                     Some(due) => due <= usize::from(far.room(other.channel)),
@@ -76,7 +67,7 @@ impl Lines {
         requires joined { other_at self.old leg ≡ Some other }
         ensures { MovesFront (front_at self.old leg) leg other self.old self.new }
     {
-        let sizes = self.sizes(leg, other);
+        let sizes = sizes_of(&self.lines, leg, other);
         if self.lines[leg.line].joins().goes_whole(leg.channel, sizes) {
             self.move_whole(leg, other);
         } else {
@@ -84,7 +75,7 @@ impl Lines {
         }
     }
 
-    /// The same where a packet goes on as it is, in its buffer.
+    /// What waits first on a joined channel is taken there, and goes on to the other leg as it is, in its buffer.
     fn move_whole(&mut self, leg: SwitchChannel, other: SwitchChannel)
         requires there { leg.line < length self.old }
         requires other { other.line < length self.old }
@@ -145,7 +136,7 @@ impl Lines {
     }
 
     /// What a packet that was taken on a joined channel makes due is sent on the other leg, and what is left is gathered.
-    fn turn(&mut self, leg: SwitchChannel, other: SwitchChannel, packet: &UserData)
+    fn turn(&mut self, leg: SwitchChannel, other: SwitchChannel, packet: &AnyUserData)
         requires there { leg.line < length self.old }
         requires other { other.line < length self.old }
         ensures { let turn = turned (sizes_at self.old leg other) (gathered_by (joined_at self.old leg)) packet.now in

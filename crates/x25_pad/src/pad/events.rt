@@ -1,15 +1,18 @@
 //! What the packet layer tells, and the end of an event.
-ghost use Rattle.std.specs.Prelude.{◌≡◌, ◌≤◌, ◌+◌, ◌<◌, [], ◌∷◌, ◌++◌, None, length, drop, IfSome};
+ghost use Rattle.std.specs.Prelude.{◌≡◌, ◌≤◌, ◌+◌, ◌<◌, [], ◌∷◌, ◌++◌, None, length, drop, map, IfSome};
 ghost use Rattle.packet_channel.specs.NoteView.{note_of};
 ghost use Rattle.packet_end.specs.PacketEnd as end;
 ghost use Rattle.packet_end.specs.Sending.{EndsWhole, ending_frames};
 ghost use Rattle.packet_layer.specs.LayerTimers.{TimersAgree};
 ghost use Rattle.pad_ports.specs.PadLine as line;
+ghost use Rattle.pad_ports.specs.Ports.{settled};
 ghost use Rattle.x25_pad.specs.Pad as spec;
+ghost use Rattle.x25_pad.specs.Settling.{NothingElseToSettle};
 
 use crate::pad::Pad;
+use number_set::NumberSet;
 use packet_layer::LayerNote;
-use pad_ports::{ChannelNote, EARLY_NOTES, MOST_NOTES, Port, PortNote, TOLD_NOTES};
+use pad_ports::{ChannelNote, EARLY_NOTES, MOST_NOTES, PadLine, Port, PortNote, TOLD_NOTES};
 
 impl Pad {
     /// Begins an event: what was not taken of the last one is dropped.
@@ -97,13 +100,14 @@ impl Pad {
         let last = last_call(incoming, &note);
         let terminal = terminal_with(self.ports.as_slice(), about(&note));
         self.noted_at.add(terminal);
-        tell(&mut self.ports, &note);
+        tell(&mut self.ports, &mut self.touched, &note);
         self.line.notes.add(ChannelNote::Told(note));
         last
     }
 
     fn first_free(&self) -> Option<usize>
         ensures number { result ≡ spec.first_free self.now.ports }
+        ensures within { IfSome result (λ number. number < length self.now.ports) }
         ensures most { IfSome result (λ number. number < 16) }
     {
         self.ports.iter().position(|port| port.is_free())
@@ -124,9 +128,8 @@ impl Pad {
             return;
         };
         self.line.accept(channel);
-        if let Some(port) = self.ports.get_mut(number) {
-            port.connect(channel);
-        }
+        self.touched.insert(number);
+        self.ports[number].connect(channel);
         self.noted_at
             .fill(Some(number as u8), self.line.notes.len());
     }
@@ -135,10 +138,23 @@ impl Pad {
     fn settle(&mut self)
         ensures { self.new ≡ spec.all_settled self.old }
     {
-        for port in self.ports.iter_mut() {
-            port.settle(&self.line);
+        self.touched = settle_ports(&mut self.ports, self.touched, &self.line);
+    }
+}
+
+/// Settles the ports that were touched, and answers which of them are to be settled again: their terminals wait to go on.
+fn settle_ports(ports: &mut [Port], mut touched: NumberSet, line: &PadLine) -> NumberSet
+    requires { NothingElseToSettle touched ports.old }
+    ensures ports { ports.new ≡ map (settled line.now) ports.old }
+    ensures rest { NothingElseToSettle result ports.new }
+{
+    let mut waiting = NumberSet::new();
+    while let Some(number) = touched.take_first() {
+        if !ports[number].settle(line) {
+            waiting.insert(number);
         }
     }
+    waiting
 }
 
 /// The channel of the call that came in last, where this note is told after others.
@@ -153,29 +169,38 @@ fn last_call(before: Option<u8>, note: &LayerNote) -> Option<u8>
 
 /// The terminal whose call a note is of, if there is one, learns what became of it.
 #[tactic(auto, unfolding(crate::specs::Pad::all_heard))]
-fn tell(ports: &mut Vec<Port>, note: &LayerNote)
+fn tell(ports: &mut Vec<Port>, touched: &mut NumberSet, note: &LayerNote)
+    requires most { length ports.old.items ≤ 16 }
+    requires rest { NothingElseToSettle touched.old ports.old.items }
     ensures ports { ports.new.items ≡ spec.all_heard (line.learnt_of (note_of note.now)) ports.old.items }
     ensures count { length ports.new.items ≡ length ports.old.items }
+    ensures rest { NothingElseToSettle touched.new ports.new.items }
 {
     match note {
-        LayerNote::Connected(channel) => learn(ports, PortNote::Connected(*channel)),
+        LayerNote::Connected(channel) => learn(ports, touched, PortNote::Connected(*channel)),
         LayerNote::Closed { channel, cause, .. } => {
-            learn(ports, PortNote::Cleared(*channel, *cause));
+            learn(ports, touched, PortNote::Cleared(*channel, *cause));
         }
-        LayerNote::Reset { channel, cause, .. } => learn(ports, PortNote::Reset(*channel, *cause)),
+        LayerNote::Reset { channel, cause, .. } => {
+            learn(ports, touched, PortNote::Reset(*channel, *cause));
+        }
         LayerNote::Incoming(_, _) | LayerNote::InterruptConfirmed(_) | LayerNote::Covered { .. } =>
             {}
     }
 }
 
 /// The terminal whose call is on the channel, if there is one, learns what became of it.
-fn learn(ports: &mut Vec<Port>, note: PortNote)
+fn learn(ports: &mut Vec<Port>, touched: &mut NumberSet, note: PortNote)
+    requires most { length ports.old.items ≤ 16 }
+    requires rest { NothingElseToSettle touched.old ports.old.items }
     ensures ports { ports.new.items ≡ spec.one_learnt ports.old.items note }
     ensures count { length ports.new.items ≡ length ports.old.items }
+    ensures rest { NothingElseToSettle touched.new ports.new.items }
 {
     let Some(number) = holder(ports.as_slice(), note.channel()) else {
         return;
     };
+    touched.insert(number);
     if let Some(port) = ports.get_mut(number) {
         port.learn(note);
     }
@@ -207,7 +232,8 @@ fn about(note: &LayerNote) -> u8
 }
 
 fn holder(ports: &[Port], channel: u8) -> Option<usize>
-    ensures { result ≡ spec.holder channel ports.now }
+    ensures number { result ≡ spec.holder channel ports.now }
+    ensures within { IfSome result (λ number. number < length ports.now) }
 {
     ports.iter().position(|port| port.has_channel(channel))
 }

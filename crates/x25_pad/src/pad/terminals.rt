@@ -93,7 +93,9 @@ impl Pad {
         ensures room { length self.new.line.notes ≤ length self.old.line.notes + 2 }
         ensures told { self.new.line.end.notes ≡ self.old.line.end.notes }
     {
-        let taken = self.ports[usize::from(terminal)].press(octet, &mut self.line);
+        let number = usize::from(terminal);
+        self.touched.insert(number);
+        let taken = self.ports[number].press(octet, &mut self.line);
         self.noted_at.fill(Some(terminal), self.line.notes.len());
         taken
     }
@@ -107,7 +109,9 @@ impl Pad {
         ensures room { length self.new.line.notes ≤ length self.old.line.notes + 2 }
         ensures told { self.new.line.end.notes ≡ self.old.line.end.notes }
     {
-        let taken = self.ports[usize::from(terminal)].break_in(&mut self.line);
+        let number = usize::from(terminal);
+        self.touched.insert(number);
+        let taken = self.ports[number].break_in(&mut self.line);
         self.noted_at.fill(Some(terminal), self.line.notes.len());
         taken
     }
@@ -120,7 +124,9 @@ impl Pad {
         ensures room { length self.new.line.notes ≤ length self.old.line.notes + 2 }
         ensures told { self.new.line.end.notes ≡ self.old.line.end.notes }
     {
-        self.ports[usize::from(terminal)].leave(&mut self.line);
+        let number = usize::from(terminal);
+        self.touched.insert(number);
+        self.ports[number].leave(&mut self.line);
         self.noted_at.fill(Some(terminal), self.line.notes.len());
     }
 
@@ -131,7 +137,9 @@ impl Pad {
         ensures room { length self.new.line.notes ≤ length self.old.line.notes }
         ensures told { self.new.line.end.notes ≡ self.old.line.end.notes }
     {
-        self.ports[usize::from(terminal)].arrive();
+        let number = usize::from(terminal);
+        self.touched.insert(number);
+        self.ports[number].arrive();
     }
 
     /// Takes the end of the idle time of a terminal (X.3 3.4). If its idle timer does not run, nothing happens.
@@ -174,7 +182,9 @@ impl Pad {
         ensures room { length self.new.line.notes ≤ length self.old.line.notes + 2 }
         ensures told { self.new.line.end.notes ≡ self.old.line.end.notes }
     {
-        let taken = self.ports[usize::from(terminal)].pause(&mut self.line);
+        let number = usize::from(terminal);
+        self.touched.insert(number);
+        let taken = self.ports[number].pause(&mut self.line);
         self.noted_at.fill(Some(terminal), self.line.notes.len());
         taken
     }
@@ -226,7 +236,9 @@ impl Pad {
         ensures room { length self.new.line.notes ≤ length self.old.line.notes + 2 }
         ensures told { self.new.line.end.notes ≡ self.old.line.end.notes }
     {
-        let taken = self.ports[usize::from(terminal)].print(&mut self.line, out);
+        let number = usize::from(terminal);
+        self.touched.insert(number);
+        let taken = self.ports[number].print(&mut self.line, out);
         self.noted_at.fill(Some(terminal), self.line.notes.len());
         taken
     }

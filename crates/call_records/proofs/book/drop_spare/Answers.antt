@@ -14,6 +14,7 @@ loop-number-preserved c =
       same = e.same ∙ v.same;
       len = e.len ∙ v.len;
       capacity = e.capacity ∙ v.capacity;
+      counted = λ counted. c.drop_spare_at.ensures.counted (v.counted counted);
       fits =
           subst P next
           (one_more c.args.numbers.now k _ _ c.drop_spare_at.new.records.items c.loop-number-test.true refl
@@ -24,3 +25,7 @@ pub returns-clause-fits : goal.returns-clause-fits
 returns-clause-fits c =
     all_of c.args.numbers.now c.loop-number.number-index c.loop-number.records.items c.loop-number-test.false
     c.loop-number.invariant.fits
+
+pub returns-in_err-drop_spare_at-clause-counted : goal.returns-in_err-drop_spare_at-clause-counted
+returns-in_err-drop_spare_at-clause-counted c counted =
+    c.drop_spare_at.ensures.counted (c.loop-number.invariant.counted counted)

@@ -1,5 +1,5 @@
 use Rattle.std.proofs.Common.{◌<◌, ◌≤◌, length, arith}
-use Rattle.call_records.proofs.Growing.{found_at, none_at, shown_same}
+use Rattle.call_records.proofs.Growing.{found_at, none_at, shown_same, counted_set}
 use Rattle.call_records.proofs.Fitting.{fitting_set, fitting_here, single}
 use Rattle.call_records.proofs.book.drop_spare_at.Goals as goal
 
@@ -31,3 +31,11 @@ returns-else-number-len-clause-fits c i number r is there =
     let beyond : length rs ≤ c.args.number = omega (arith, c.args.records.now.ok) in
     let same = single c.args.number number i is in
     absurd (none_at rs c.args.number r beyond (rw (← same) there))
+
+pub returns-in_err-drop_spare-clause-counted : goal.returns-in_err-drop_spare-clause-counted
+returns-in_err-drop_spare-clause-counted c counted =
+    counted_set c.args.number c.args.records.now.items c.drop_spare.new.self c.drop_spare.ensures.counted counted
+
+pub returns-in_ok-drop_spare-clause-counted : goal.returns-in_ok-drop_spare-clause-counted
+returns-in_ok-drop_spare-clause-counted c counted =
+    counted_set c.args.number c.args.records.now.items c.drop_spare.new.self c.drop_spare.ensures.counted counted

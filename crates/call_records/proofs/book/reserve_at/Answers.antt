@@ -1,5 +1,5 @@
 use Rattle.std.proofs.Common.{◌<◌, ◌≤◌, length, arith}
-use Rattle.call_records.proofs.Growing.{found_at, none_at, shown_same, places_set, places_here}
+use Rattle.call_records.proofs.Growing.{found_at, none_at, shown_same, places_set, places_here, counted_set}
 use Rattle.call_records.proofs.book.reserve_at.Goals as goal
 
 pub returns-in_err-reserve-clause-same : goal.returns-in_err-reserve-clause-same
@@ -29,3 +29,17 @@ returns-else-number-len-clause-ok c r e =
     let rs = c.args.records.now.items in
     let beyond : length rs ≤ c.args.number = omega (arith, c.args.records.now.ok) in
     absurd (none_at rs c.args.number r beyond e)
+
+pub returns-in_err-reserve-clause-counted : goal.returns-in_err-reserve-clause-counted
+returns-in_err-reserve-clause-counted c counted =
+    let rs = c.args.records.now.items in
+    let within : c.args.number < length rs = omega (arith, c.args.records.now.ok) in
+    let there = found_at rs c.args.number c.index_mut-record.result.now within c.index_mut-record.ensures.value in
+    counted_set c.args.number rs c.reserve.new.self (c.reserve.ensures.counted (counted c.args.number _ there)) counted
+
+pub returns-in_ok-reserve-clause-counted : goal.returns-in_ok-reserve-clause-counted
+returns-in_ok-reserve-clause-counted c counted =
+    let rs = c.args.records.now.items in
+    let within : c.args.number < length rs = omega (arith, c.args.records.now.ok) in
+    let there = found_at rs c.args.number c.index_mut-record.result.now within c.index_mut-record.ensures.value in
+    counted_set c.args.number rs c.reserve.new.self (c.reserve.ensures.counted (counted c.args.number _ there)) counted

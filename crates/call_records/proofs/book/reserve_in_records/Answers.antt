@@ -26,3 +26,15 @@ pub returns-clause-dce : goal.returns-clause-dce
 returns-clause-dce c =
     let P : Side → Type 0 = λ s. CallsHavePlaces c.args.count s.slots c.reserve_present-2.new.records.items in
     subst P (c.of-2.ensures [] []) c.in_ok-reserve_present-2.ensures.ok
+
+pub returns-in_err-reserve_present-clause-counted : goal.returns-in_err-reserve_present-clause-counted
+returns-in_err-reserve_present-clause-counted c counted =
+    c.reserve_present.ensures.counted (c.drop_spare.ensures.counted counted)
+
+pub returns-in_err-reserve_present-2-clause-counted : goal.returns-in_err-reserve_present-2-clause-counted
+returns-in_err-reserve_present-2-clause-counted c counted =
+    c.reserve_present-2.ensures.counted (c.reserve_present.ensures.counted (c.drop_spare.ensures.counted counted))
+
+pub returns-clause-counted : goal.returns-clause-counted
+returns-clause-counted c counted =
+    c.reserve_present-2.ensures.counted (c.reserve_present.ensures.counted (c.drop_spare.ensures.counted counted))

@@ -15,6 +15,7 @@ loop-place-preserved c =
             same = w.reserve_at.ensures.same ∙ v.same;
             len = w.reserve_at.ensures.len ∙ v.len;
             capacity = w.reserve_at.ensures.capacity ∙ v.capacity;
+            counted = λ counted. w.reserve_at.ensures.counted (v.counted counted);
             kept = λ other at. kept other (v.kept other at);
             reserved = this_or_before c.args.side.now.slots c.loop-place.place c.args.count w.in-Some.number w.reserve_at.new.records.items
                 (slot ∙ w.in-Some.is) w.in_ok-reserve_at.ensures.ok (λ channel number le e. kept number (v.reserved channel number le e));
@@ -23,6 +24,7 @@ loop-place-preserved c =
         same = v.same;
         len = v.len;
         capacity = v.capacity;
+        counted = v.counted;
         kept = v.kept;
         reserved = none_or_before c.args.side.now.slots c.loop-place.place c.args.count c.loop-place.records.items (slot ∙ w.in_default.is) v.reserved;
       })
@@ -32,3 +34,7 @@ pub returns-clause-ok : goal.returns-clause-ok
 returns-clause-ok c =
     before_all c.args.side.now.slots c.args.count c.loop-place.records.items
     (λ channel number le e. c.loop-place.invariant.reserved channel number (omega (arith, c.channels-place-end.ensures)) e)
+
+pub returns-in_err-reserve_at-clause-counted : goal.returns-in_err-reserve_at-clause-counted
+returns-in_err-reserve_at-clause-counted c counted =
+    c.reserve_at.ensures.counted (c.loop-place.invariant.counted counted)

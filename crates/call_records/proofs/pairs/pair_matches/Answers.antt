@@ -3,10 +3,11 @@ use Rattle.std.proofs.lemmas.Bool.{both_ways}
 use Rattle.call_records.specs.RecordView.{shown, pair_of}
 use Rattle.call_records.proofs.Elements.{get-there, get-past, get-map, get-map-none}
 use Rattle.call_records.proofs.PairsThere.{match-there, no-caller, no-callee}
+use Rattle.call_records.proofs.RecordEpochs.{records-match}
 use Rattle.call_records.proofs.pairs.pair_matches.Goals as goal
 
-pub returns-then-record_matches : goal.returns-then-record_matches
-returns-then-record_matches c =
+pub returns-then-matches : goal.returns-then-matches
+returns-then-matches c =
     let records = c.args.records.now in
     let caller : slice_get records c.args.pair.now.caller ≡ Some c.in-Some-Some.caller.now =
     get-there records c.args.pair.now.caller c.in-Some-Some.caller.now c.in-Some-Some.ensures.lookup.3.0 c.in-Some-Some.ensures.lookup.1 in
@@ -14,30 +15,31 @@ returns-then-record_matches c =
     get-there records c.args.pair.now.callee c.in-Some-Some.callee.now c.in-Some-Some.ensures'.lookup.3.0 c.in-Some-Some.ensures'.lookup.1 in
     let a = get-map shown records _ _ caller in
     let b = get-map shown records _ _ callee in
-    let onward = c.record_matches.ensures in
-    let backward = c.record_matches-then-record_matches.ensures in (
+    let onward = records-match c.in-Some-Some.callee.now c.in-Some-Some.caller.now _ c.matches.ensures in
+    let backward = records-match c.in-Some-Some.caller.now c.in-Some-Some.callee.now _ c.matches-then-matches.ensures in (
       λ t. record {
         caller = shown c.in-Some-Some.caller.now;
         callee = shown c.in-Some-Some.callee.now;
         caller_there = a;
         callee_there = b;
-        onward = onward.0 c.if-record_matches.true;
+        onward = onward.0 c.if-matches.true;
         backward = backward.0 t;
       },
       λ m. backward.1 (match-there (map shown records) (pair_of c.args.pair.now) _ _ a b m).1,
     )
 
-pub returns-else-record_matches : goal.returns-else-record_matches
-returns-else-record_matches c =
+pub returns-else-matches : goal.returns-else-matches
+returns-else-matches c =
     let records = c.args.records.now in
     let caller : slice_get records c.args.pair.now.caller ≡ Some c.in-Some-Some.caller.now =
     get-there records c.args.pair.now.caller c.in-Some-Some.caller.now c.in-Some-Some.ensures.lookup.3.0 c.in-Some-Some.ensures.lookup.1 in
     let callee : slice_get records c.args.pair.now.callee ≡ Some c.in-Some-Some.callee.now =
     get-there records c.args.pair.now.callee c.in-Some-Some.callee.now c.in-Some-Some.ensures'.lookup.3.0 c.in-Some-Some.ensures'.lookup.1 in
     let a = get-map shown records _ _ caller in
-    let b = get-map shown records _ _ callee in (
-      λ t. absurd (both_ways _ c.if-record_matches.false t),
-      λ m. c.record_matches.ensures.1 (match-there (map shown records) (pair_of c.args.pair.now) _ _ a b m).0,
+    let b = get-map shown records _ _ callee in
+    let onward = records-match c.in-Some-Some.callee.now c.in-Some-Some.caller.now _ c.matches.ensures in (
+      λ t. absurd (both_ways _ c.if-matches.false t),
+      λ m. onward.1 (match-there (map shown records) (pair_of c.args.pair.now) _ _ a b m).0,
     )
 
 pub returns-in_default : goal.returns-in_default

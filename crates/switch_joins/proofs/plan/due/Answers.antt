@@ -10,12 +10,12 @@ returns c = λ g d e f h.
     let n = c.args.gathered in
     let p = c.new-plan.result in
     let far = subst (λ k. 1 ≤ k) c.far.ensures.value c.far.ensures.some in
-    let long = ap (λ k. nat_lt k p.size || (p.gathered_first && nat_lt k n)) (sym c.far.ensures.value) ∙ sym c.is_long.ensures ∙ c.if-is_long.false in (
+    let long = ap (λ k. nat_lt k p.size || (p.gathered_first && nat_lt k n)) (sym (c.from.ensures ∙ c.far.ensures.value)) ∙ sym c.is_long.ensures ∙ c.if-is_long.false in (
       due_short s n c.args.qualified c.args.packet p g d far c.new-plan.ensures.plan e f h ∙ ap not long,
-      ap₂ (λ a b. a + b) c.from-2.ensures
+      ap₂ (λ a b. a + b) c.from-3.ensures
           (c.pieces.ensures
           ∙ ap (λ k. if p.rest_waits then 0 else (k - 1) / p.size + 1)
-          (c.rest_length-rest.ensures ∙ ap (λ k. rest_length p.gathered_first n k) c.from.ensures))
+          (c.rest_length-rest.ensures ∙ ap (λ k. rest_length p.gathered_first n k) c.from-2.ensures))
           ∙ sym (due_count s n c.args.qualified c.args.packet p g d c.new-plan.ensures.plan e f h),
     )
 
@@ -25,5 +25,5 @@ returns-then-is_long c = λ g d e f h.
     let n = c.args.gathered in
     let p = c.new-plan.result in
     let far = subst (λ k. 1 ≤ k) c.far.ensures.value c.far.ensures.some in
-    let long = ap (λ k. nat_lt k p.size || (p.gathered_first && nat_lt k n)) (sym c.far.ensures.value) ∙ sym c.is_long.ensures ∙ c.if-is_long.true in
+    let long = ap (λ k. nat_lt k p.size || (p.gathered_first && nat_lt k n)) (sym (c.from.ensures ∙ c.far.ensures.value)) ∙ sym c.is_long.ensures ∙ c.if-is_long.true in
     due_short s n c.args.qualified c.args.packet p g d far c.new-plan.ensures.plan e f h ∙ ap not long

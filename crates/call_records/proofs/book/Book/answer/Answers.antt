@@ -14,6 +14,7 @@ invariant_of-self c =
       pair_room = omega (arith, p.pair_room, c.saturating_sub-self-inside-2.ensures);
       most_records = less.most_records;
       most_pairs = less.most_pairs;
+      counted = less.counted;
       dte = less.dte;
       dce = less.dce;
     })
@@ -36,6 +37,7 @@ invariant_of-self-2 c =
       );
       most_records = less.most_records;
       most_pairs = omega (arith, less.most_pairs, c.push_reserved.ensures.capacity);
+      counted = less.counted;
       dte = less.dte;
       dce = less.dce;
     })

@@ -12,6 +12,7 @@ invariant_of-self c =
       pair_room = p.pair_room;
       most_records = p.most_records;
       most_pairs = p.most_pairs;
+      counted = p.counted;
       dte = p.dte;
       dce = p.dce;
     }

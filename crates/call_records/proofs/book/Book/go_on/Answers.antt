@@ -12,6 +12,7 @@ invariant_of-self c =
       pair_room = p.pair_room;
       most_records = omega (arith, p.most_records, c.go_on_at.ensures.capacity);
       most_pairs = p.most_pairs;
+      counted = c.go_on_at.ensures.counted p.counted;
       dte = λ channel number e. c.go_on_at.ensures.room a.places number (p.dte channel number e);
       dce = λ channel number e. c.go_on_at.ensures.room a.places number (p.dce channel number e);
     }

@@ -24,6 +24,7 @@ grow_at-requires c =
     let room = subst P (sym c.self.view_is) c.requires.room in
     record {
       places = fewer_at a.places (needed c.args.growth) c.in-Some.number a.records.items (omega (arith, room, p.room)) here;
+      counted = p.counted;
       fits = c.requires.fits;
     }
 
@@ -41,6 +42,7 @@ invariant_of-self-2 c =
       pair_room = p.pair_room;
       most_records = omega (arith, p.most_records, c.grow_at.ensures.capacity);
       most_pairs = p.most_pairs;
+      counted = c.grow_at.ensures.counted;
       dte = λ channel number e. c.grow_at.ensures.room a.places number here (p.dte channel number e);
       dce = λ channel number e. c.grow_at.ensures.room a.places number here (p.dce channel number e);
     })

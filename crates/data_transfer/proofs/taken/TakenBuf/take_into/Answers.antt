@@ -8,7 +8,7 @@ pub octets-requires-in-Data : goal.octets-requires-in-Data
 octets-requires-in-Data c =
     let b = c.in-Data.packet.buffer in
     let all = subst (λ x. Holds c.args.pool.now (buffers_in x)) c.in-Data.is c.requires.held in
-    held_in c.args.pool.now (b ∷ []) 0 b all refl
+    rw c.buffer.ensures.value (held_in c.args.pool.now (b ∷ []) 0 b all refl)
 
 pub front-front-requires : goal.front-front-requires
 front-front-requires c =

@@ -8,9 +8,11 @@ use Rattle.data_transfer.proofs.traffic.Traffic.say_data.Goals as goal
 pub octets-requires : goal.octets-requires
 octets-requires c =
     let all = subst (λ (t : Traffic). Holds c.args.pool.now t.held) (sym c.self.view_is) c.requires.holds in
+    rw c.buffer.ensures.value (
     held_in c.args.pool.now c.self.inside.waiting.held 0 c.in-Some.data.now.buffer
     (holds_first c.args.pool.now c.self.inside.waiting.held c.self.inside.arrived.held all)
     c.in-Some.ensures.buffer
+    )
 
 pub drop_front-requires : goal.drop_front-requires
 drop_front-requires c =

@@ -4,11 +4,14 @@ use Rattle.network_laws.specs.Courses.{IsPlannedPad}
 use Rattle.network_laws.proofs.MadeCourses.{made_course}
 use Rattle.network_laws.proofs.Switched.PromiseAny.{promise_any}
 use Rattle.line_sim.proofs.Events.{made}
+use Rattle.line_sim.proofs.InFlight.{new_kept}
 use Rattle.line_sim.proofs.net.Net.new.Goals as goal
 
 pub invariant_of-result : goal.invariant_of-result
 invariant_of-result g c =
-    made g.L.Line.service c.in_ok-plan.plan c.in_ok-nodes.nodes c.in_ok-plan.ensures.plan c.in_ok-nodes.ensures.ok
+    new_kept g.L.Line.service c.in_ok-nodes.nodes c.in_ok-busy.busy
+    (made g.L.Line.service c.in_ok-plan.plan c.in_ok-nodes.nodes c.in_ok-plan.ensures.plan c.in_ok-nodes.ensures.ok)
+    c.in_ok-busy.ensures.all
 
 pub returns-clause-courses : goal.returns-clause-courses
 returns-clause-courses g c = λ pad line place planned.

@@ -9,19 +9,19 @@ use Rattle.packet_end.proofs.pooled.PooledEnd.ask.Goals as goal
 
 pub ask-requires-clause-holds : goal.ask-requires-clause-holds
 ask-requires-clause-holds c =
-    layer_holds c.args.pool.now c.self.inside.line c.self.inside.layer
+    layer_holds c.args.pool.now c.self.inside.line.value c.self.inside.layer
     (served c.self.inside c.args.self.now c.args.pool.now c.self.view_is c.requires)
 
 pub ask-requires-clause-size : goal.ask-requires-clause-size
 ask-requires-clause-size c =
     if_sending (request_of c.args.request.now)
-    (layer_size c.args.pool.now c.self.inside.line c.self.inside.layer
+    (layer_size c.args.pool.now c.self.inside.line.value c.self.inside.layer
     (served c.self.inside c.args.self.now c.args.pool.now c.self.view_is c.requires) c.self.invariant.info)
 
 pub ask-requires-clause-room : goal.ask-requires-clause-room
 ask-requires-clause-room c =
     if_sending (request_of c.args.request.now)
-    (layer_room c.args.pool.now c.self.inside.line c.self.inside.layer
+    (layer_room c.args.pool.now c.self.inside.line.value c.self.inside.layer
     (served c.self.inside c.args.self.now c.args.pool.now c.self.view_is c.requires) c.self.invariant.line)
 
 pub invariant_of-self : goal.invariant_of-self

@@ -13,9 +13,9 @@ returns-in-Nothing-clause-end c =
     subst (λ (x : PooledEnd). x ≡ record x { end = finished x.end }) c.self.view_is
     (λ i. record {
       end = sym (finished_once (end_of a) (ended a.touched (end_of a) c.in-Nothing.is c.self.invariant.finished)) i;
-      held = a.line.held ++ a.layer.held;
-      share = share_of a.line.end a.layer.layer;
-      info = a.line.end.link.info;
+      held = a.line.value.held ++ a.layer.held;
+      share = share_of a.line.value.end a.layer.layer;
+      info = a.line.value.end.link.info;
     })
 
 pub returns-in-Nothing-clause-frames : goal.returns-in-Nothing-clause-frames

@@ -6,5 +6,5 @@ use Rattle.packet_end.proofs.pooled.PooledEnd.front.Goals as goal
 
 pub front-requires : goal.front-requires
 front-requires c =
-    layer_part c.args.pool.now c.self.inside.line c.self.inside.layer
+    layer_part c.args.pool.now c.self.inside.line.value c.self.inside.layer
     (subst (λ (x : PooledEnd). Holds c.args.pool.now x.held) (sym c.self.view_is) c.requires)

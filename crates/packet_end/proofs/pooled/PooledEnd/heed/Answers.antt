@@ -7,13 +7,13 @@ use Rattle.packet_end.proofs.pooled.PooledEnd.heed.Goals.{in-Up, in-Down}
 
 pub link_up-requires : goal.link_up-requires
 link_up-requires c = record {
-  holds = layer_holds c.args.pool.now c.self.inside.line c.self.inside.layer
+  holds = layer_holds c.args.pool.now c.self.inside.line.value c.self.inside.layer
       (served c.self.inside c.args.self.now c.args.pool.now c.self.view_is c.requires.pool);
 }
 
 pub link_down-requires : goal.link_down-requires
 link_down-requires c = record {
-  holds = layer_holds c.args.pool.now c.self.inside.line c.self.inside.layer
+  holds = layer_holds c.args.pool.now c.self.inside.line.value c.self.inside.layer
       (served c.self.inside c.args.self.now c.args.pool.now c.self.view_is c.requires.pool);
 }
 

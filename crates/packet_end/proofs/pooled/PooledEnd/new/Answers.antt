@@ -1,4 +1,4 @@
-use Rattle.std.proofs.Common.{◌+◌, ◌∙◌, [], ◌++◌, ap, sym, rules}
+use Rattle.std.proofs.Common.{◌≡◌, ◌+◌, ◌∙◌, [], ◌++◌, length, ap, sym, arith, rules, tests}
 use Rattle.lapb.specs.declared.link.LinkParams.{LinkParams}
 use Rattle.line_end.specs.End as line
 use Rattle.line_end.specs.Held.{LineEnd}
@@ -13,8 +13,9 @@ pub returns-clause-end : goal.returns-clause-end
 returns-clause-end c =
     let p = c.args.params in
     let role = c.args.role in
+    let boxed : c.in_ok-line-2.line.value ≡ c.in_ok-line.line = search (rules, tests) in
     let line =
-    c.in_ok-line.ensures.end.1 ∙ ap (λ (q : LinkParams). record { end = line.made role q; held = [] }) c.link.ensures in
+    boxed ∙ c.in_ok-line.ensures.end.1 ∙ ap (λ (q : LinkParams). record { end = line.made role q; held = [] }) c.link.ensures in
     let layer =
     c.in_ok-layer.ensures.1
     ∙ ap (λ (q : LayerParams). record { layer = machine.made role q.channels q.flow q.standing; held = [] }) c.layer.ensures in
@@ -25,7 +26,7 @@ returns-clause-end c =
       end = record {
         line = (line i).end;
         layer = (layer i).layer;
-        timers = c.new-4.ensures i;
+        timers = c.new-5.ensures i;
         notes = c.in_ok-notes.ensures i;
       };
       held = (line i).held ++ (layer i).held;
@@ -37,14 +38,16 @@ pub invariant_of-result : goal.invariant_of-result
 invariant_of-result c =
     let p = c.args.params in
     let role = c.args.role in
-    let info =
-    ap (λ (x : LineEnd). x.end.link.info) c.in_ok-line.ensures.end.1
-    ∙ ap (λ (q : LinkParams). (line.made role q).link.info) c.link.ensures ∙ made_info role (link_params p) in
+    let boxed : c.in_ok-line-2.line.value ≡ c.in_ok-line.line = search (rules, tests) in
+    let line =
+    boxed ∙ c.in_ok-line.ensures.end.1 ∙ ap (λ (q : LinkParams). record { end = line.made role q; held = [] }) c.link.ensures in
+    let none = ap (λ (x : LineEnd). length x.held) line in
+    let info = ap (λ (x : LineEnd). x.end.link.info) line ∙ made_info role (link_params p) in
     let flow =
     ap (λ (x : Layer). x.layer.flow) c.in_ok-layer.ensures.1
     ∙ ap (λ (q : LayerParams). q.flow) c.layer.ensures in
     record {
-      line = search rules;
+      line = omega (arith, none);
       layer = search rules;
       info = info ∙ ap info_of (sym flow);
       agree = search rules;

@@ -9,15 +9,17 @@ use Rattle.packet_end.specs.Pooled.{PooledEnd, share_of}
 use Rattle.packet_end.specs.PacketEnd.{PacketEnd}
 use Rattle.packet_layer.proofs.Unsent.{next_none}
 use Rattle.packet_end.proofs.Offering.{no_packet}
-use Rattle.packet_end.proofs.Pools.{served, serves_after, line_holds, line_room, layer_holds, layer_balanced, link_steps}
+use Rattle.packet_end.proofs.Pools.{served, serves_after, line_holds, lent_holds, line_room, layer_holds, layer_balanced, link_steps}
 use Rattle.packet_layer.specs.Events.{IsHeard}
 use Rattle.packet_end.proofs.Short.{next_short}
 use Rattle.packet_end.proofs.Waits.{others_agree, next_alike}
+use Rattle.flow_window.specs.Pool.{Balances}
+use Rattle.line_end.specs.Held.{LineEnd}
 use Rattle.packet_end.proofs.pooled.PooledEnd.offer_next.Goals as goal
 
 pub next_packet-requires : goal.next_packet-requires
 next_packet-requires c = record {
-  holds = layer_holds c.args.pool.now c.self.inside.line c.self.inside.layer
+  holds = layer_holds c.args.pool.now c.self.inside.line.value c.self.inside.layer
       (served c.self.inside c.args.self.now c.args.pool.now c.self.view_is c.requires);
 }
 
@@ -26,12 +28,13 @@ offer-requires-clause-holds c =
     let a = c.self.inside in
     let x = c.args.self.now in
     let new = c.next_packet.new.self in
-    let same = ap (λ n. a.line.end.link.k + n + 1) c.next_packet.ensures.most ∙ ap (λ (x : PooledEnd). x.share) c.self.view_is in
-    line_holds c.next_packet.new.pool a.line new
-    (serves_after c.args.pool.now c.next_packet.new.pool x.held (a.line.held ++ new.held) x.share
-    (share_of a.line.end new.layer) x.info a.line.end.link.info c.requires
+    let same = ap (λ n. a.line.value.end.link.k + n + 1) c.next_packet.ensures.most ∙ ap (λ (x : PooledEnd). x.share) c.self.view_is in
+    lent_holds c.next_packet.new.pool a.line.value c.deref_mut.ensures.value
+    (line_holds c.next_packet.new.pool a.line.value new
+    (serves_after c.args.pool.now c.next_packet.new.pool x.held (a.line.value.held ++ new.held) x.share
+    (share_of a.line.value.end new.layer) x.info a.line.value.end.link.info c.requires
     (layer_balanced a x c.args.pool.now c.next_packet.new.pool new c.self.view_is c.next_packet.ensures.pool) same
-    (ap (λ (x : PooledEnd). x.info) c.self.view_is))
+    (ap (λ (x : PooledEnd). x.info) c.self.view_is)))
 
 pub offer-requires-clause-packet : goal.offer-requires-clause-packet
 offer-requires-clause-packet c =
@@ -42,22 +45,25 @@ offer-requires-clause-packet c =
     next_short l.flow (next_packet l).packet _ c.as_slice-packet.result.now says (λ k. omega (arith, c.type_inv.packet k))
     (value ∙ c.next_packet.ensures.octets)
     (subst (λ (b : List ℕ). IsHeard l.flow (next_packet l).packet b) (sym value) c.next_packet.ensures.heard) in
-    omega (arith, short, c.self.invariant.info)
+    let lent = ap (λ (l : LineEnd). l.end.link.info) c.deref_mut.ensures.value in
+    omega (arith, short, c.self.invariant.info, lent)
 
 pub offer-requires-clause-size : goal.offer-requires-clause-size
 offer-requires-clause-size c =
     let served = served c.self.inside c.args.self.now c.args.pool.now c.self.view_is c.requires in
-    omega (arith, served.size_least, c.next_packet.ensures.pool.size)
+    let lent = ap (λ (l : LineEnd). l.end.link.info) c.deref_mut.ensures.value in
+    let own = ap (λ (x : PooledEnd). x.info) c.self.view_is in
+    omega (arith, served.size_least, c.next_packet.ensures.pool.size, lent, own)
 
 pub offer-requires-clause-room : goal.offer-requires-clause-room
 offer-requires-clause-room c =
     let a = c.self.inside in
     let x = c.args.self.now in
     let new = c.next_packet.new.self in
-    let same = ap (λ n. a.line.end.link.k + n + 1) c.next_packet.ensures.most ∙ ap (λ (x : PooledEnd). x.share) c.self.view_is in
-    line_room c.next_packet.new.pool a.line new
-    (serves_after c.args.pool.now c.next_packet.new.pool x.held (a.line.held ++ new.held) x.share
-    (share_of a.line.end new.layer) x.info a.line.end.link.info c.requires
+    let same = ap (λ n. a.line.value.end.link.k + n + 1) c.next_packet.ensures.most ∙ ap (λ (x : PooledEnd). x.share) c.self.view_is in
+    line_room c.next_packet.new.pool a.line.value new
+    (serves_after c.args.pool.now c.next_packet.new.pool x.held (a.line.value.held ++ new.held) x.share
+    (share_of a.line.value.end new.layer) x.info a.line.value.end.link.info c.requires
     (layer_balanced a x c.args.pool.now c.next_packet.new.pool new c.self.view_is c.next_packet.ensures.pool) same
     (ap (λ (x : PooledEnd). x.info) c.self.view_is))
     c.self.invariant.line c.next_packet.ensures.few
@@ -67,10 +73,11 @@ returns-clause-pool c =
     let a = c.self.inside in
     let x = c.args.self.now in
     let new = c.next_packet.new.self in
-    balances_then c.args.pool.now c.next_packet.new.pool c.offer.new.pool x.held (a.line.held ++ new.held)
+    balances_then c.args.pool.now c.next_packet.new.pool c.offer.new.pool x.held (a.line.value.held ++ new.held)
     (c.offer.new.self.held ++ new.held)
     (layer_balanced a x c.args.pool.now c.next_packet.new.pool new c.self.view_is c.next_packet.ensures.pool)
-    (link_steps c.next_packet.new.pool c.offer.new.pool a.line c.offer.new.self new c.offer.ensures.pool)
+    (link_steps c.next_packet.new.pool c.offer.new.pool a.line.value c.offer.new.self new
+    (subst (λ (l : LineEnd). Balances c.next_packet.new.pool l.held c.offer.new.pool c.offer.new.self.held) c.deref_mut.ensures.value c.offer.ensures.pool))
 
 pub returns-then-not-next_packet-clause-pool : goal.returns-then-not-next_packet-clause-pool
 returns-then-not-next_packet-clause-pool c =
@@ -97,7 +104,7 @@ invariant_of-self-2 c =
       line = c.offer.ensures.most;
       layer = c.next_packet.ensures.few;
       info = rw c.next_packet.ensures.layer
-          (c.offer.ensures.info ∙ c.self.invariant.info ∙ ap info_of (sym (flow_next e.layer.layer)));
+          (c.offer.ensures.info ∙ ap (λ (l : LineEnd). l.end.link.info) c.deref_mut.ensures.value ∙ c.self.invariant.info ∙ ap info_of (sym (flow_next e.layer.layer)));
       agree = rw c.next_packet.ensures.layer
           (others_agree e.layer.layer _ e.timers e.touched c.touch.new.self c.self.invariant.agree
           (λ n out. (sym (c.touch.ensures.others n) ∙ out, next_alike e.layer.layer n)));
@@ -111,15 +118,15 @@ returns-then-not-next_packet-clause-end c =
     sym c.next_packet.ensures.said ∙ c.if-not-next_packet.true in
     let layer : c.next_packet.new.self.layer ≡ a.layer.layer =
     c.next_packet.ensures.layer ∙ next_none a.layer.layer silent in
-    let most = ap (λ n. a.line.end.link.k + n + 1) c.next_packet.ensures.most in
+    let most = ap (λ n. a.line.value.end.link.k + n + 1) c.next_packet.ensures.most in
     (λ i. record {
-      end = record { line = a.line.end; layer = layer i; timers = a.timers; notes = a.notes };
-      held = a.line.held ++ c.next_packet.new.self.held;
+      end = record { line = a.line.value.end; layer = layer i; timers = a.timers; notes = a.notes };
+      held = a.line.value.held ++ c.next_packet.new.self.held;
       share = most i;
-      info = a.line.end.link.info;
+      info = a.line.value.end.link.info;
     })
-    ∙ ap (λ (x : PooledEnd). record x { held = a.line.held ++ c.next_packet.new.self.held }) c.self.view_is
-    ∙ ap (λ (e : PacketEnd). record c.args.self.now { end = e; held = a.line.held ++ c.next_packet.new.self.held })
+    ∙ ap (λ (x : PooledEnd). record x { held = a.line.value.held ++ c.next_packet.new.self.held }) c.self.view_is
+    ∙ ap (λ (e : PacketEnd). record c.args.self.now { end = e; held = a.line.value.held ++ c.next_packet.new.self.held })
     (sym (no_packet 1 c.args.self.now.end (ap (λ (x : PooledEnd). is_some (next_packet x.end.layer).packet) (sym c.self.view_is) ∙ silent)))
 
 pub returns-clause-within : goal.returns-clause-within

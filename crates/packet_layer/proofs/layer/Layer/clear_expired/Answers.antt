@@ -8,8 +8,8 @@ use Rattle.packet_layer.proofs.Placed.{placed, plain_at, plain_set, own_held, ow
 use Rattle.packet_layer.proofs.Silence.{layer_stepped}
 use Rattle.packet_layer.proofs.layer.Layer.clear_expired.Goals as goal
 
-pub expire-relink-requires-clause-holds : goal.expire-relink-requires-clause-holds
-expire-relink-requires-clause-holds c =
+pub clear_error-relink-requires-clause-holds : goal.clear_error-relink-requires-clause-holds
+clear_error-relink-requires-clause-holds c =
     let a = c.self.inside in
     let held = c.index_mut-channel.result.now in
     let there = placed a c.args.self.now c.in-Some.place held c.self.view_is c.in-Some.ensures.1 c.index_mut-channel.ensures.value in
@@ -20,8 +20,8 @@ returns-clause-pool c =
     let a = c.self.inside in
     let held = c.index_mut-channel.result.now in
     let there = placed a c.args.self.now c.in-Some.place held c.self.view_is c.in-Some.ensures.1 c.index_mut-channel.ensures.value in
-    rw c.relink_if.ensures (own_balance a c.args.self.now c.args.pool.now c.expire-relink.new.pool c.in-Some.place held c.expire-relink.new.self c.self.view_is there
-    c.expire-relink.ensures.pool)
+    rw c.relink_if.ensures (own_balance a c.args.self.now c.args.pool.now c.clear_error-relink.new.pool c.in-Some.place held c.clear_error-relink.new.self c.self.view_is there
+    c.clear_error-relink.ensures.pool)
 
 pub returns-clause-layer : goal.returns-clause-layer
 returns-clause-layer c =
@@ -31,24 +31,24 @@ returns-clause-layer c =
     let l = layer_of a in
     let found = plain_at a.channels.items c.in-Some.place held there in
     ap (λ (x : Held). x.layer) c.relink_if.ensures
-    ∙ (rw (← c.self.view_is) (ap (λ chs. record l { channels = chs; relink = set_if c.expire-relink.result l.relink; notes = c.expire-relink.new.notes }) (plain_set a.channels.items c.in-Some.place c.expire-relink.new.self)
-    ∙ expiry_taken l c.args.channel c.in-Some.place held.channel c.expire-relink.new.self.channel c.expire-relink.result c.expire-relink.new.notes c.end-end.result.role c.end-end.result.channel (c.in-Some.ensures.0 ∙ c.from.ensures) found (ap (λ (x : Held). x.layer.notes) c.self.view_is ∙ c.requires.read)
-    (c.end-end.ensures.role ∙ ap (λ (x : Held). x.layer.role) (sym c.self.view_is)) c.end-end.ensures.channel c.expire-relink.ensures.done))
+    ∙ (rw (← c.self.view_is) (ap (λ chs. record l { channels = chs; relink = set_if c.clear_error-relink.result l.relink; notes = c.clear_error-relink.new.notes }) (plain_set a.channels.items c.in-Some.place c.clear_error-relink.new.self)
+    ∙ expiry_taken l c.args.channel c.in-Some.place held.channel c.clear_error-relink.new.self.channel c.clear_error-relink.result c.clear_error-relink.new.notes c.end-end.result.role c.end-end.result.channel (c.in-Some.ensures.0 ∙ c.from.ensures) found (ap (λ (x : Held). x.layer.notes) c.self.view_is ∙ c.requires.read)
+    (c.end-end.ensures.role ∙ ap (λ (x : Held). x.layer.role) (sym c.self.view_is)) c.end-end.ensures.channel c.clear_error-relink.ensures.done))
 
 pub invariant_of-self : goal.invariant_of-self
 invariant_of-self c =
     let a = c.self.inside in
     let held = c.index_mut-channel.result.now in
     let there = placed a c.args.self.now c.in-Some.place held c.self.view_is c.in-Some.ensures.1 c.index_mut-channel.ensures.value in
-    layer_stepped a c.insert.new.self c.in-Some.place held c.expire-relink.new.self _ c.expire-relink.result c.expire-relink.new.notes c.self.invariant c.insert.ensures there (c.expire-relink.ensures.fits a.flow) c.expire-relink.ensures.done
+    layer_stepped a c.insert.new.self c.in-Some.place held c.clear_error-relink.new.self _ c.clear_error-relink.result c.clear_error-relink.new.notes c.self.invariant c.insert.ensures there (c.clear_error-relink.ensures.fits a.flow) c.clear_error-relink.ensures.done
 
 pub returns-clause-few : goal.returns-clause-few
 returns-clause-few c =
     let a = c.self.inside in
     let held = c.index_mut-channel.result.now in
     let there = placed a c.args.self.now c.in-Some.place held c.self.view_is c.in-Some.ensures.1 c.index_mut-channel.ensures.value in
-    rw c.relink_if.ensures (few_after a.flow a.channels.items c.in-Some.place held c.expire-relink.new.self c.self.invariant.fits there
-    (c.expire-relink.ensures.fits a.flow))
+    rw c.relink_if.ensures (few_after a.flow a.channels.items c.in-Some.place held c.clear_error-relink.new.self c.self.invariant.fits there
+    (c.clear_error-relink.ensures.fits a.flow))
 
 pub index_mut-channel-requires : goal.index_mut-channel-requires
 index_mut-channel-requires c = grind (arith, common_steps)

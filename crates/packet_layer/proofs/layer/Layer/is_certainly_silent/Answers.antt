@@ -1,4 +1,4 @@
-use Rattle.std.proofs.Common.{◌≡◌, false, subst}
+use Rattle.std.proofs.Common.{◌≡◌, ◌==◌, false, length, subst}
 use Rattle.std.specs.Prelude.{is_some}
 use Rattle.std.specs.Bool.{OnTrue}
 use Rattle.packet_layer.specs.Held.{Layer as Held}
@@ -11,4 +11,4 @@ returns-then-is_empty c =
     let result = c.is_empty-then-is_empty.result in
     subst (λ (x : Held). OnTrue result (is_some (next_packet x.layer).packet ≡ false)) c.self.view_is
     (silent_where_empty c.self.inside result c.self.invariant c.if-is_empty.ensures.none
-    c.is_empty-then-is_empty.ensures)
+    (subst (λ xs. result ≡ (length xs == 0)) c.deref.ensures c.is_empty-then-is_empty.ensures))

@@ -5,7 +5,8 @@ use Rattle.packet_channel.specs.Channel.Request.{Sending}
 use Rattle.data_transfer.specs.Packets.{Datum}
 use Rattle.switch_joins.specs.Joins.{gathered_by}
 use Rattle.switch_joins.specs.Turning.{Sizes, Gathered, turned}
-use Rattle.switch_lines.specs.Lines.{Joined, SwitchLine, joined_on, nth_joined, size_of_line, takes_at}
+use Rattle.switch_lines.specs.Lines.{Joined, SwitchLine, joined_on, nth_joined, size_of_line, sizes_at, takes_at}
+use Rattle.switch_lines.specs.Pooled.{PooledLine, plain}
 use Rattle.packet_layer.specs.Layer.{Layer, room}
 use Rattle.packet_layer.specs.Interrupting.{may_interrupt}
 use Rattle.packet_end.specs.PacketEnd.{PacketEnd}
@@ -44,14 +45,17 @@ returns-in-Some c =
     let joined = c.joins-joins.result.now.joined in
     let near = ap (λ (js : List (Option Joined)). gathered_by (nth_joined js leg.channel)) c.joins-joins.ensures.joined
     ∙ ap (λ (o : Option SwitchLine). gathered_by (joined_on o leg.channel)) here in
-    let size = ap (λ (s : Sizes). s.far) c.sizes-sizes.ensures ∙ sym (ap (λ (o : Option SwitchLine). size_of_line o) there) in
+    let sized = c.sizes_of-sizes.ensures.sizes
+    ∙ ap (λ (ps : List PooledLine). sizes_at (plain ps) leg other) c.deref-in-Data.ensures.value
+    ∙ ap (λ (xs : List SwitchLine). sizes_at xs leg other) c.self.view_is in
+    let size = ap (λ (s : Sizes). s.far) sized ∙ sym (ap (λ (o : Option SwitchLine). size_of_line o) there) in
     let made : Sizes → Gathered → Datum → List Datum = λ s g d. (turned s g d).made in
-    let mine : Datum → List Datum = made c.sizes-sizes.result (gathered_by (nth_joined joined leg.channel)) in
+    let mine : Datum → List Datum = made c.sizes_of-sizes.result (gathered_by (nth_joined joined leg.channel)) in
     packet_goes (nat_le c.in-Some.due c.from.result) ls leg other c.in-Data.length c.in-Data.more c.in-Data.qualified c.in-Data.delivery
     (c.requires.front ∙ ap (λ (f : Front). Some f) c.in-Data.is)
     (λ d e.
     let due = c.in-Some.ensures d e in
-    let same = ap₂ (λ (s : Sizes) (g : Gathered). made s g d) (sym c.sizes-sizes.ensures) (sym near) in
+    let same = ap₂ (λ (s : Sizes) (g : Gathered). made s g d) (sym sized) (sym near) in
     ap (λ (ds : List Datum). takes_at ls other (map Sending ds)) same
     ∙ counted_goes ls other far.line (mine d) c.in-Some.due c.from.result there
     (subst (λ k. are_short k (mine d) ≡ true) size due.0, due.1)
@@ -70,12 +74,15 @@ returns-in-None c =
     let joined = c.joins-joins.result.now.joined in
     let near = ap (λ (js : List (Option Joined)). gathered_by (nth_joined js leg.channel)) c.joins-joins.ensures.joined
     ∙ ap (λ (o : Option SwitchLine). gathered_by (joined_on o leg.channel)) here in
-    let size = ap (λ (s : Sizes). s.far) c.sizes-sizes.ensures ∙ sym (ap (λ (o : Option SwitchLine). size_of_line o) there) in
+    let sized = c.sizes_of-sizes.ensures.sizes
+    ∙ ap (λ (ps : List PooledLine). sizes_at (plain ps) leg other) c.deref-in-Data.ensures.value
+    ∙ ap (λ (xs : List SwitchLine). sizes_at xs leg other) c.self.view_is in
+    let size = ap (λ (s : Sizes). s.far) sized ∙ sym (ap (λ (o : Option SwitchLine). size_of_line o) there) in
     let made : Sizes → Gathered → Datum → List Datum = λ s g d. (turned s g d).made in
-    let mine : Datum → List Datum = made c.sizes-sizes.result (gathered_by (nth_joined joined leg.channel)) in
+    let mine : Datum → List Datum = made c.sizes_of-sizes.result (gathered_by (nth_joined joined leg.channel)) in
     packet_goes false ls leg other c.in-Data.length c.in-Data.more c.in-Data.qualified c.in-Data.delivery
     (c.requires.front ∙ ap (λ (f : Front). Some f) c.in-Data.is)
     (λ d e.
-    let same = ap₂ (λ (s : Sizes) (g : Gathered). made s g d) (sym c.sizes-sizes.ensures) (sym near) in
+    let same = ap₂ (λ (s : Sizes) (g : Gathered). made s g d) (sym sized) (sym near) in
     ap (λ (ds : List Datum). takes_at ls other (map Sending ds)) same
     ∙ long_stays ls other far.line (mine d) there (subst (λ k. are_short k (mine d) ≡ false) size (c.in-None.ensures d e)))

@@ -1,12 +1,15 @@
-use Rattle.std.proofs.Common.{◌≤◌, ◌∙◌, ap, map, length, subst, sym, arith}
+use Rattle.std.proofs.Common.{◌≤◌, ◌&&◌, ◌∙◌, ap, map, length, subst, sym, arith}
+use Rattle.std.specs.Prelude.{slice_get}
 use Rattle.packet_end.specs.PacketEnd.{all_offered}
+use Rattle.number_set.specs.NumberSet.{has}
 use Rattle.switch_lines.specs.Pooled.{plain, ArePooled}
 use Rattle.switch_lines.specs.Switch.{with_end, offering_from}
-use Rattle.switch_lines.specs.Touched.{NothingElseIsLeft, changed_in, offering_in}
+use Rattle.switch_lines.specs.Touched.{NothingElseIsLeft, changed_in, offers_on}
 use Rattle.switch_lines.proofs.Ending.{written}
 use Rattle.switch_lines.proofs.Left.{Lines, offering_all, offered_all, touched_change, touched_are_there, same_size}
 use Rattle.switch_lines.proofs.Left.{written_back}
-use Rattle.switch_lines.proofs.Pooled.{Pooled, same_lines}
+use Rattle.switch_lines.proofs.Members.{members_are}
+use Rattle.switch_lines.proofs.Pooled.{Pooled, plain_length, same_lines}
 use Rattle.switch_lines.specs.Waiting.{NothingElseMoves}
 use Rattle.switch_lines.proofs.Waiting.{offered_kept}
 use Rattle.switch_lines.proofs.lines.Lines.offer.Goals as goal
@@ -15,10 +18,6 @@ pub offer_lines-requires-clause-there : goal.offer_lines-requires-clause-there
 offer_lines-requires-clause-there c =
     touched_are_there c.self.inside.touched c.self.inside.untaken (plain c.self.inside.lines.items)
     (plain c.deref_mut.result.now) (ap plain c.deref_mut.ensures.value) c.self.invariant.rest
-
-pub offer_lines-requires-clause-most : goal.offer_lines-requires-clause-most
-offer_lines-requires-clause-most c =
-    let same = ap (λ (zs : Pooled). length zs) c.deref_mut.ensures.value in omega (arith, same, c.self.invariant.most)
 
 pub offer_lines-requires-clause-pool : goal.offer_lines-requires-clause-pool
 offer_lines-requires-clause-pool c =
@@ -52,10 +51,13 @@ invariant_of-self c =
 pub returns-clause-offering : goal.returns-clause-offering
 returns-clause-offering c =
     let s = c.self.inside.touched in
-    c.offer_lines.ensures.offering
-    ∙ (ap (λ (zs : Pooled). offering_in s 0 (plain zs)) c.deref_mut.ensures.value
-    ∙ (offering_all s c.self.inside.untaken (plain c.self.inside.lines.items) c.self.invariant.rest
-    ∙ ap (λ (zs : Lines). offering_from 0 zs) c.self.view_is))
+    let xs = plain c.self.inside.lines.items in
+    let long = plain_length c.self.inside.lines.items in
+    members_are c.offer_lines.result xs (omega (arith, long, c.self.invariant.most)) (λ n.
+    c.offer_lines.ensures.offering n
+    ∙ (ap (λ (zs : Pooled). has s n && offers_on (slice_get (plain zs) n)) c.deref_mut.ensures.value
+    ∙ offering_all s c.self.inside.untaken xs c.self.invariant.rest n))
+    ∙ ap (λ (zs : Lines). offering_from 0 zs) c.self.view_is
 
 pub returns-clause-lines : goal.returns-clause-lines
 returns-clause-lines c =

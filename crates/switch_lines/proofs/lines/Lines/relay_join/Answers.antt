@@ -1,9 +1,9 @@
 use Rattle.std.proofs.Common.{◌≡◌, ◌∙◌, ap, subst, sym, List}
 use Rattle.switch_lines.specs.Lines.{SwitchLine, SwitchChannel}
 use Rattle.switch_lines.specs.Relay.{relayed, most_moves}
-use Rattle.switch_lines.specs.Waiting.{other_at, IsStuck}
+use Rattle.switch_lines.specs.Waiting.{other_at, IsStuck, NothingElseMoves}
 use Rattle.switch_lines.proofs.Legs.{to_relayed}
-use Rattle.switch_lines.proofs.Waiting.{relayed_stuck}
+use Rattle.switch_lines.proofs.Waiting.{relayed_stuck, forgotten}
 use Rattle.switch_lines.proofs.lines.Lines.relay_join.Goals as goal
 
 -- what a channel is joined to after two relays
@@ -26,3 +26,17 @@ pub rest_join-requires-clause-stuck : goal.rest_join-requires-clause-stuck
 rest_join-requires-clause-stuck c =
     subst (λ (ls : List SwitchLine). IsStuck ls c.args.leg) (sym c.relay_channel-all_back.ensures.lines)
     (relayed_stuck most_moves c.in-Some.other c.args.leg c.relay_channel-all.new.self c.if-all.ensures.stuck)
+
+pub invariant_of-self : goal.invariant_of-self
+invariant_of-self c =
+    let s = c.self.inside.to_relay in
+    let r = c.self.inside.refusing in
+    let ls = c.args.self.now in
+    let moves = subst (λ (ks : List SwitchLine). NothingElseMoves s r ks) c.self.view_is c.self.invariant.moves in
+    record {
+      most = c.self.invariant.most;
+      rest = c.self.invariant.rest;
+      moves = subst (λ (ks : List SwitchLine). NothingElseMoves c.remove.new.self r ks) (sym c.self.view_is)
+          (forgotten s c.remove.new.self r ls c.args.leg (sym c.in_default.ensures.other) c.remove.ensures moves);
+      pooled = c.self.invariant.pooled;
+    }

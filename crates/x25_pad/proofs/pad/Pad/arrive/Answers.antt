@@ -1,14 +1,28 @@
 -- What happens at a port, of which nothing is noted.
-use Rattle.std.proofs.Common.{length, refl, Some}
+use Rattle.std.proofs.Common.{length, refl, Some, ap, arith}
+use Rattle.std.proofs.lemmas.Grind.{common_steps}
 use Rattle.pad_ports.specs.Ports as port
 use Rattle.x25_pad.specs.Pad.{PadState}
 use Rattle.x25_pad.specs.PadView.{pad_of}
 use Rattle.x25_pad.proofs.Acting.{acts_at, none_unnamed}
+use Rattle.x25_pad.proofs.Settling.{one_touched, count_written}
 use Rattle.x25_pad.proofs.pad.Pad.arrive.Goals as goal
 
 pub returns-clause-pad : goal.returns-clause-pad
 returns-clause-pad c =
     let p : PadState = pad_of c.self.inside in
-    acts_at port.after_arrival p c.args.self.now c.args.terminal c.from.result (length p.line.notes) c.index_mut.result.now
-    c.arrive.new.self p.line p.noted_at c.self.view_is c.from.ensures c.requires c.index_mut.ensures.value
+    acts_at port.after_arrival p c.args.self.now c.args.terminal c.from-number.result (length p.line.notes) c.index_mut.result.now
+    c.arrive.new.self p.line p.noted_at c.self.view_is c.from-number.ensures c.requires c.index_mut.ensures.value
     c.arrive.ensures refl refl (none_unnamed p (Some c.args.terminal) c.self.invariant.named)
+
+pub invariant_of-self : goal.invariant_of-self
+invariant_of-self c =
+    let ports = c.self.inside.ports.items in
+    let has = ap (λ (p : PadState). length p.ports) c.self.view_is in
+    let count = count_written ports c.from-number.result c.arrive.new.self in
+    record {
+      most = omega (arith, c.self.invariant.most, count);
+      named = grind (arith, common_steps);
+      rest = one_touched c.self.inside.touched c.insert.new.self c.from-number.result ports c.arrive.new.self c.insert.ensures
+          (omega (arith, has, c.requires, c.from-number.ensures)) c.self.invariant.rest;
+    }

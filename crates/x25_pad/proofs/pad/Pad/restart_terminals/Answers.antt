@@ -1,11 +1,26 @@
--- One port more.
-use Rattle.std.proofs.Common.{arith}
+-- One port more, and those that were settled are.
+use Rattle.std.specs.Vec.{with_items}
+use Rattle.std.proofs.Common.{◌≡◌, arith}
+use Rattle.std.proofs.lemmas.Grind.{common_steps}
 use Rattle.std.proofs.lemmas.List.Edits.{map_over_more}
 use Rattle.pad_ports.specs.Ports.{restarted}
+use Rattle.x25_pad.proofs.Settling.{all_done, same_rest, restarted_settled}
 use Rattle.x25_pad.proofs.pad.Pad.restart_terminals.Goals as goal
 
 pub loop-port-preserved : goal.loop-port-preserved
 loop-port-preserved c =
     rw (c.restart.ensures, ← c.port-item.is)
-    (map_over_more restarted c.deref_mut-port-items.result.now c.loop-port.port-items
+    (map_over_more (restarted) c.deref_mut-port-items.result.now c.loop-port.port-items
     c.loop-port.port-index c.port-item.result (omega arith) c.loop-port.invariant c.port-item.is)
+
+pub invariant_of-self : goal.invariant_of-self
+invariant_of-self c =
+    let whole : (with_items c.self.inside.ports c.loop-port.port-items).items ≡ c.loop-port.port-items = grind (arith, common_steps) in
+    record {
+      most = grind (arith, common_steps);
+      named = c.self.invariant.named;
+      rest = same_rest c.self.inside.touched _ _ whole
+          (all_done c.self.inside.touched (restarted) c.deref_mut-port-items.result.now c.loop-port.port-items c.loop-port.port-index
+          (λ p is. restarted_settled p) (omega (arith, c.loop-port-test.false)) c.loop-port.invariant
+          (same_rest c.self.inside.touched _ _ c.deref_mut-port-items.ensures.value c.self.invariant.rest));
+    }
