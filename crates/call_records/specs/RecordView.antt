@@ -53,11 +53,11 @@ pub record HasPlaces (room : ℕ) (r : Record) : Type 0 where
   pub taken : HasSpare room r.taken
   pub steps : room ≤ vec_capacity r.steps - vec_len r.steps
 
--- and as many as the record counts
+-- every list has as many places as the record counts
 abbrev pub IsCounted : Record → Type 0
 IsCounted r = HasPlaces r.places r
 
--- each of these records has
+-- each of these records has the places that it counts
 abbrev pub AreCounted : List Record → Type 0
 AreCounted records = (number : ℕ) (r : Record) → slice_get records number ≡ Some r → IsCounted r
 

@@ -119,7 +119,7 @@ fn echo_octet(octet: u8, params: &Params, column: u16, waiting: &mut HeapCircula
     echo_laid_out(octet, params, column, waiting)
 }
 
-/// Adds one octet that is echoed, as [`echo_octet`] does, where it may take more than its own place.
+/// Adds one octet that is echoed, as [`echo_octet`] does, if it may take more than its own place.
 #[inline(never)]
 fn echo_laid_out(
     octet: u8,

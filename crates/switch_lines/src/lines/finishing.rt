@@ -129,7 +129,7 @@ impl Lines {
         }
     }
 
-    /// Relinks and relays where a link is to be set up anew, which is rare.
+    /// Relinks and relays if a link has to be set up again, which is rare.
     #[inline(never)]
     fn relay_relinked(&mut self, routes: &Routes, line: usize)
         requires { AreRead self.old }
