@@ -12,14 +12,13 @@ use Rattle.number_set.specs.declared.NumberSet.{NumberSet}
 use Rattle.number_set.specs.NumberSet.{has}
 use Rattle.switch_lines.specs.Lines.{SwitchLine}
 use Rattle.switch_lines.specs.Switch.{with_end, may_offer, raised, to_relink, frames_on}
-use Rattle.switch_lines.specs.Touched.{AreThere, IsSettled, IsTaken, NothingElseIsLeft, changed_in, offers_on}
-use Rattle.switch_lines.specs.Touched.{first_to_relink, HasAllFrames}
+use Rattle.switch_lines.specs.Touched.{AreThere, HasAllFrames, IsSettled, IsTaken, NothingElseIsLeft, changed_in, offers_on}
 use Rattle.switch_lines.proofs.Changing.{there}
 use Rattle.switch_lines.proofs.Ending.{written, offer_none}
 use Rattle.switch_joins.proofs.Apart.{decided}
 use Rattle.switch_lines.proofs.Settling.{stays_settled, is_settled, stays_taken}
 use Rattle.switch_lines.proofs.Touched.{count_written, written_here, written_other, all_are_changed, others_same}
-use Rattle.switch_lines.proofs.Touched.{same_count, all_asking}
+use Rattle.switch_lines.proofs.Touched.{same_count, first_to_relink, all_asking}
 
 abbrev pub Lines : Type 0
 Lines = List SwitchLine

@@ -10,7 +10,7 @@ use Rattle.number_set.specs.declared.NumberSet.{NumberSet}
 use Rattle.number_set.specs.NumberSet.{has, IsFirstOf}
 use Rattle.switch_lines.specs.Lines.{SwitchLine, changed}
 use Rattle.switch_lines.specs.Switch.{may_offer, raised, to_relink}
-use Rattle.switch_lines.specs.Touched.{AreThere, changed_in, first_to_relink, offers_on}
+use Rattle.switch_lines.specs.Touched.{AreThere, changed_in, offers_on}
 use Rattle.switch_lines.proofs.Changing.{changed_here, there}
 use Rattle.switch_joins.proofs.ChannelSets.{and_yes}
 
@@ -94,6 +94,11 @@ others_same s f k (suc i) (x ∷ xs) out =
     others_same s f (suc k) i xs (ap (λ n. has s n) next ∙ out)
 
 -- ---- which line asks for a new link
+
+-- the first of the lines of a set, from line n on, whose packet layer asks for a link that is set up anew
+abbrev pub first_to_relink : NumberSet → (line : ℕ) → List SwitchLine → Option ℕ
+first_to_relink s n [] = None
+first_to_relink s n (l ∷ ls) = if has s n && l.end.layer.relink then Some n else first_to_relink s (suc n) ls
 
 asking_beyond : (s rest : NumberSet) (line : ℕ) → IsFirstOf s line rest → (k : ℕ) (ls : List SwitchLine) → line < k →
     first_to_relink rest k ls ≡ first_to_relink s k ls

@@ -1,6 +1,6 @@
 -- Which lines of a switch an event has to look at: those on which something happened. On the others nothing is left to
 -- do.
-use Rattle.std.specs.Prelude.{◌≡◌, ℕ, zero, suc, ◌<◌, Bool, true, false, ◌&&◌, if◌then◌else◌, List, [], ◌∷◌, length, slice_get}
+use Rattle.std.specs.Prelude.{◌≡◌, ℕ, zero, suc, ◌<◌, Bool, true, false, if◌then◌else◌, List, [], ◌∷◌, length, slice_get}
 use Rattle.std.specs.Prelude.{Option, Some, None}
 use Rattle.lapb.specs.Machine.{settle, runs}
 use Rattle.line_end.specs.End.{End}
@@ -44,17 +44,10 @@ pub record NothingElseIsLeft (touched untaken : NumberSet) (ls : List SwitchLine
   pub taken : (n : ℕ) (l : SwitchLine) → has touched n ≡ false → has untaken n ≡ false → slice_get ls n ≡ Some l
       → IsTaken l
 
--- ---- the same of some lines alone, from line n on
-
--- they are changed
+-- some lines alone are changed, from line n on
 abbrev pub changed_in : {X : Type 0} → NumberSet → (X → X) → (line : ℕ) → List X → List X
 changed_in s f n [] = []
 changed_in s f n (x ∷ xs) = (if has s n then f x else x) ∷ changed_in s f (suc n) xs
-
--- the first of them whose packet layer asks for a link that is set up anew
-abbrev pub first_to_relink : NumberSet → (line : ℕ) → List SwitchLine → Option ℕ
-first_to_relink s n [] = None
-first_to_relink s n (l ∷ ls) = if has s n && l.end.layer.relink then Some n else first_to_relink s (suc n) ls
 
 -- ---- the numbers of a set, rising: those from n on, below n + count, and all
 

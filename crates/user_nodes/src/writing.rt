@@ -2,7 +2,7 @@
 ghost use Rattle.std.specs.Prelude.{◌≡◌, ◌≤◌, [], true, length, vec_capacity};
 ghost use Rattle.data_transfer.specs.Cutting.{cut};
 ghost use Rattle.data_transfer.specs.Flow.{is_size};
-ghost use Rattle.packet_host.specs.Saying.{message};
+ghost use Rattle.epochs.specs.Packets.{data_packet_of};
 ghost use Rattle.call_records.specs.Book.{all_told};
 ghost use Rattle.call_records.specs.Room.{opening_notes};
 ghost use Rattle.user_nodes.specs.Node.{all_read};
@@ -36,15 +36,15 @@ pub fn write_request(book: &mut Book, role: Role, channel: u8, size: u16, reques
             octets,
             qualified,
             delivery,
-        } => write_message(
-            book,
-            role,
-            channel,
-            size,
-            octets.as_slice(),
-            *qualified,
-            *delivery,
-        ),
+        } => {
+            let packet = PassedPacket {
+                octets: octets.as_slice(),
+                more: false,
+                qualified: *qualified,
+                delivery: *delivery,
+            };
+            write_packets(book, role, channel, size, packet);
+        }
         HostRequest::Interrupt { octets } => book.interrupt(role, channel, octets.as_slice()),
         HostRequest::Reset => book.renew(role, channel),
         HostRequest::Stop | HostRequest::Go => {}
@@ -77,38 +77,30 @@ pub fn write_notes(node: &mut Node, at: Attachment, book: &mut Book, notes: &mut
     }
 }
 
-/// Writes the packets of a message, cut to this size.
-fn write_message(
-    book: &mut Book,
-    role: Role,
-    channel: u8,
-    size: u16,
-    octets: &[u8],
-    qualified: bool,
-    delivery: bool,
-)
+/// Writes a packet, cut to packets of this size.
+fn write_packets(book: &mut Book, role: Role, channel: u8, size: u16, packet: PassedPacket<'_>)
     requires size { is_size size ≡ true }
-    requires fits { length octets.now ≤ 1024 }
+    requires fits { length packet.octets.now ≤ 1024 }
     requires room { 8 ≤ book.old.room }
-    ensures { book.new.book ≡ all_sent role channel (cut size (message octets.now qualified delivery)) book.old.book }
+    ensures { book.new.book ≡ all_sent role channel (cut size (data_packet_of packet.entry)) book.old.book }
 {
-    let mut rest = octets;
-    for _ in 0..full_packets(octets, size) {
+    let mut rest = packet.octets;
+    for _ in 0..full_packets(rest, size) {
         let (full, others) = rest.split_at(usize::from(size));
-        let packet = PassedPacket {
+        let front = PassedPacket {
             octets: full,
             more: true,
-            qualified,
+            qualified: packet.qualified,
             delivery: false,
         };
-        book.send(role, channel, packet);
+        book.send(role, channel, front);
         rest = others;
     }
     let last = PassedPacket {
         octets: rest,
-        more: false,
-        qualified,
-        delivery,
+        more: packet.more,
+        qualified: packet.qualified,
+        delivery: packet.delivery,
     };
     book.send(role, channel, last);
 }

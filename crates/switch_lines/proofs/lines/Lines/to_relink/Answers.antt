@@ -4,10 +4,10 @@ use Rattle.packet_end.specs.PacketEnd.{PacketEnd}
 use Rattle.switch_lines.specs.Lines.{SwitchLine}
 use Rattle.switch_lines.specs.Pooled.{plain}
 use Rattle.switch_lines.specs.Switch.{to_relink}
-use Rattle.switch_lines.specs.Touched.{AreThere, first_to_relink}
+use Rattle.switch_lines.specs.Touched.{AreThere}
 use Rattle.switch_lines.proofs.Left.{Lines, relink_of_all}
 use Rattle.switch_lines.proofs.Pooled.{plain_get, plain_length}
-use Rattle.switch_lines.proofs.Touched.{there_still, asks, asks_not, none_asking}
+use Rattle.switch_lines.proofs.Touched.{first_to_relink, there_still, asks, asks_not, none_asking}
 use Rattle.switch_lines.proofs.lines.Lines.to_relink.Goals as goal
 
 pub loop-line-init : goal.loop-line-init

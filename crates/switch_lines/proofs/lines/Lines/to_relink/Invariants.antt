@@ -1,7 +1,8 @@
 -- The first one is the first of those that are left.
 use Rattle.std.proofs.Common.{◌≡◌}
 use Rattle.switch_lines.specs.Switch.{to_relink}
-use Rattle.switch_lines.specs.Touched.{AreThere, first_to_relink}
+use Rattle.switch_lines.specs.Touched.{AreThere}
+use Rattle.switch_lines.proofs.Touched.{first_to_relink}
 use Rattle.switch_lines.proofs.lines.Lines.to_relink.Given as goal
 
 abbrev pub invariant-loop-line : goal.invariant-loop-line
