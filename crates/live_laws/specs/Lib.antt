@@ -2,3 +2,4 @@ pub mod Registers
 pub mod Writing
 pub mod Living
 pub mod LiveRuns
+pub mod Blind

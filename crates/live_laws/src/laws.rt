@@ -1,4 +1,5 @@
 //! That nothing but the register depends on the register, and what follows of runs.
+ghost use Rattle.live_laws.specs.Blind.{BlindLaw};
 ghost use Rattle.live_laws.specs.Living.{MadeLaw, EventLaw, TimeLaw};
 ghost use Rattle.live_laws.specs.LiveRuns.{LiveRunsAreRuns};
 ghost use Rattle.live_laws.specs.Writing.{TurnsAreAlike, HappensWithAnyRegister};
@@ -26,4 +27,9 @@ pub fn forgetting_law<L: Line>()
 /// each event and each time that passes. With these registers the run is one of a network that keeps records.
 pub fn live_run_law<L: Line>()
     ensures { LiveRunsAreRuns L.service }
+{}
+
+/// The law of what is not known: what happens on lines also happens if it is not known that they are faithful.
+pub fn blind_law<L: Line>()
+    ensures { BlindLaw L.service }
 {}

@@ -3,4 +3,4 @@
 
 mod laws;
 
-pub use laws::{any_register_law, forgetting_law, live_run_law};
+pub use laws::{any_register_law, blind_law, forgetting_law, live_run_law};

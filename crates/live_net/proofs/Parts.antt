@@ -24,7 +24,7 @@ use Rattle.node_events.specs.AnswerRoom.{IsWithinLimits, IsRoomy}
 use Rattle.line_sim.proofs.Refusals.{refusals}
 use Rattle.line_sim.proofs.Registered.{lost_registered}
 use Rattle.line_sim.proofs.Stepped.{stepped}
-use Rattle.parted_laws.proofs.Blind.{happens_blind}
+use Rattle.live_laws.proofs.Blind.{happens_blind}
 use Rattle.live_laws.specs.Registers.{on, bare}
 use Rattle.live_laws.specs.Living.{IsLive}
 use Rattle.live_laws.proofs.Apart.{happens_apart}

@@ -11,7 +11,6 @@ mod Carrying
 mod Events
 mod Ticks
 mod Runs
-pub mod Blind
 mod FirstDue
 mod Made
 mod Example

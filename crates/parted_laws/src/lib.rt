@@ -5,7 +5,6 @@ ghost use Rattle.parted_laws.specs.Moves.{CarryLaw, HandLaw, PutLaw, BreakLaw};
 ghost use Rattle.parted_laws.specs.Events.{EventLaw};
 ghost use Rattle.parted_laws.specs.Running.{TickLaw, RunLaw};
 ghost use Rattle.parted_laws.specs.Making.{MakingLaw};
-ghost use Rattle.parted_laws.specs.Blind.{BlindLaw};
 ghost use Rattle.parted_laws.specs.FirstDue.{FirstDueLaw};
 ghost use Rattle.parted_laws.specs.PartedRun.{RunExample};
 ghost use Rattle.parted_laws.specs.Restarting.{EndForgets, NodeForgets, SwitchForgets};
@@ -33,7 +32,6 @@ pub fn parted_law<L: Line>()
     ensures carried { CarryLaw }
     ensures ticks { TickLaw }
     ensures due { FirstDueLaw }
-    ensures blind { BlindLaw L.service }
     ensures run { RunLaw L.service }
 {}
 

@@ -28,6 +28,7 @@ pub use call_address::CallAddress;
 pub use calls::{CallChange, CallOctets, CallStatus, NotedCall};
 pub use hosts::HostBinding;
 pub use law::{bridge_calls_law, port_law};
+pub use net_process::{Process, Share};
 pub use seats::TerminalsBinding;
 pub use service::{Bindings, Order, PortStatus, Service};
 pub use service_ports::Mode;

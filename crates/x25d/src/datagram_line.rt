@@ -1,4 +1,5 @@
 //! A line to equipment of another make whose frames go as datagrams of UDP, one each.
+use crate::context::Context;
 use crate::far_end::FarEnd;
 use crate::log::Log;
 use crate::serving::Running;
@@ -30,15 +31,15 @@ impl DatagramLine {
         })
     }
 
-    /// Sends and takes what is there, and says whether there was anything. Ticks have passed.
+    /// Sends and takes what is there, and says whether there was anything.
     pub(crate) fn turn(
         &mut self,
-        rt: &HostRuntime,
+        context: Context<'_>,
         service: &mut Running,
         log: &mut Log,
         socket: &DatagramSocket,
-        ticks: u16,
     ) -> bool {
+        let Context { rt, ticks, .. } = context;
         self.far.join(service);
         self.far.elapse(ticks);
         let took = self.far.take(service);

@@ -1,4 +1,5 @@
 //! Equipment of other makes, at lines whose other ends are elsewhere.
+use crate::context::Context;
 use crate::datagram_line::DatagramLine;
 use crate::far_end::FarEnd;
 use crate::gateway_line::GatewayLine;
@@ -66,10 +67,7 @@ impl Equipment {
             Way::Udp(way) => self
                 .datagrams
                 .push(DatagramLine::new(alloc, far, way.partner)?)?,
-            Way::Xot(way) => {
-                let connect = way.connect();
-                self.add_gateway(alloc, config, file, table, far, connect)?;
-            }
+            Way::Xot(way) => self.add_gateway(alloc, config, file, far, way.connect())?,
         }
         Ok(())
     }
@@ -79,11 +77,10 @@ impl Equipment {
         alloc: Global,
         config: &Config,
         file: &ServiceFile<'_>,
-        table: &LineTable,
         far: FarEnd,
         connect: Option<SocketAddr>,
     ) -> io::Result<()> {
-        let Some(line) = config.lines.get(usize::from(table.line)) else {
+        let Some(line) = config.lines.get(usize::from(far.number)) else {
             return Ok(());
         };
         let connections = usize::from(line.channels)
@@ -144,15 +141,13 @@ impl Equipment {
             .position(|gateway| gateway.number() == line)
     }
 
-    /// Moves what is there on all lines to equipment, and says whether there was anything. Ticks have passed. Places for
-    /// connections count from `first`, and there may be `most` connections.
+    /// Moves what is there on all lines to equipment, and says whether there was anything. Places for connections count
+    /// from `first`, and there may be `most` connections.
     pub(crate) fn turn(
         &mut self,
-        rt: &HostRuntime,
+        context: Context<'_>,
         service: &mut Running,
         log: &mut Log,
-        sockets: &Sockets<'_>,
-        ticks: u16,
         first: usize,
         most: usize,
     ) -> bool {
@@ -161,15 +156,15 @@ impl Equipment {
             let others = self.connections_but(place);
             let room = most.saturating_sub(others);
             if let Some(gateway) = self.gateways.get_mut(place) {
-                let moved = gateway.turn(rt, service, log, sockets, ticks, first, room);
+                let moved = gateway.turn(context, service, log, first, room);
                 any = any || moved;
             }
         }
         for place in 0..self.datagrams.len() {
             if let Some(line) = self.datagrams.get_mut(place)
-                && let Some(socket) = sockets.datagrams.get(place)
+                && let Some(socket) = context.sockets.datagrams.get(place)
             {
-                let moved = line.turn(rt, service, log, socket, ticks);
+                let moved = line.turn(context, service, log, socket);
                 any = any || moved;
             }
         }

@@ -1,5 +1,6 @@
 //! A line to equipment of another make, each of whose calls has a TCP connection of its own (RFC 1613).
 use crate::call_wires::{CallWire, Change, call_wires};
+use crate::context::Context;
 use crate::far_end::FarEnd;
 use crate::log::Log;
 use crate::serving::Running;
@@ -102,19 +103,18 @@ impl GatewayLine {
         None
     }
 
-    /// Moves what is there between the line and the connections, and says whether there was anything. Ticks have passed.
-    /// Places for connections count from `first`, and there may be `room` connections more.
+    /// Moves what is there between the line and the connections, and says whether there was anything. Places for
+    /// connections count from `first`, and there may be `room` connections more.
     pub(crate) fn turn(
         &mut self,
-        rt: &HostRuntime,
+        context: Context<'_>,
         service: &mut Running,
         log: &mut Log,
-        sockets: &Sockets<'_>,
-        ticks: u16,
         first: usize,
         room: usize,
     ) -> bool {
-        self.pass_time(service, ticks);
+        let rt = context.rt;
+        self.pass_time(service, context.ticks);
         let came = self.read(rt, log);
         let took = self.take(service);
         let passed = self.end.finish();
@@ -122,7 +122,7 @@ impl GatewayLine {
             self.let_go(rt, log);
         }
         let gave = self.give(service);
-        let obeyed = self.obey(rt, log, sockets, first, room);
+        let obeyed = self.obey(context, log, first, room);
         let wrote = self.write();
         self.far.obey(rt, service, log);
         self.tell(rt, log);
@@ -211,18 +211,11 @@ impl GatewayLine {
     }
 
     /// Does what the gateway orders, and says whether there was anything.
-    fn obey(
-        &mut self,
-        rt: &HostRuntime,
-        log: &mut Log,
-        sockets: &Sockets<'_>,
-        first: usize,
-        room: usize,
-    ) -> bool {
+    fn obey(&mut self, context: Context<'_>, log: &mut Log, first: usize, room: usize) -> bool {
         for done in 0..MOST_ORDERS {
             match self.end.next_order() {
-                Some(Order::Connect(number)) => self.connect(rt, log, sockets, first, room, number),
-                Some(Order::Close(number)) => self.leave(rt, log, number),
+                Some(Order::Connect(number)) => self.connect(context, log, first, room, number),
+                Some(Order::Close(number)) => self.leave(context.rt, log, number),
                 None => return done > 0,
             }
         }
@@ -232,13 +225,13 @@ impl GatewayLine {
     /// Asks for the connection of this number.
     fn connect(
         &mut self,
-        rt: &HostRuntime,
+        context: Context<'_>,
         log: &mut Log,
-        sockets: &Sockets<'_>,
         first: usize,
         room: usize,
         number: usize,
     ) {
+        let rt = context.rt;
         let Some(to) = self.connect else {
             log.call_refused(rt, self.far.number, number, NO_PEER);
             self.end.lost(number);
@@ -251,7 +244,7 @@ impl GatewayLine {
         }
         log.call_connect(rt, self.far.number, number, to);
         let place = first.saturating_add(self.before).saturating_add(number);
-        if let Err(why) = self.ask(rt, sockets, place, number, to) {
+        if let Err(why) = self.ask(context, place, number, to) {
             log.call_failed(rt, self.far.number, number, to, why);
             self.end.lost(number);
         }
@@ -259,14 +252,13 @@ impl GatewayLine {
 
     fn ask(
         &mut self,
-        rt: &HostRuntime,
-        sockets: &Sockets<'_>,
+        context: Context<'_>,
         place: usize,
         number: usize,
         to: SocketAddr,
     ) -> io::Result<()> {
-        let mut stream = TcpStream::connect(rt, to)?;
-        sockets.watch(&mut stream, place)?;
+        let mut stream = TcpStream::connect(context.rt, to)?;
+        context.sockets.watch(&mut stream, place)?;
         stream.set_nodelay(true)?;
         if let Some(wire) = self.wires.get_mut(number) {
             wire.ask(stream, to);

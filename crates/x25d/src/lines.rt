@@ -1,4 +1,5 @@
 //! Lines whose other ends are elsewhere. Those to other processes have connections that come or are asked for.
+use crate::context::Context;
 use crate::log::Log;
 use crate::serving::Running;
 use crate::sockets::Sockets;
@@ -101,26 +102,24 @@ impl<'a> Lines<'a> {
         self.wires.iter().position(|wire| wire.is_free())
     }
 
-    /// Reads what came on all connections, and asks for those that are wanting. Ticks have passed.
+    /// Reads what came on all connections, and asks for those that are wanting. Places for connections count from `first`.
     pub(crate) fn turn(
         &mut self,
-        rt: &HostRuntime,
+        context: Context<'_>,
         service: &mut Running,
         log: &mut Log,
-        sockets: &Sockets<'_>,
-        ports: usize,
-        ticks: u16,
+        first: usize,
     ) {
         for number in 0..self.wires.len() {
             let turn = match self.wires.get_mut(number) {
-                Some(wire) => wire.turn(service, ticks),
+                Some(wire) => wire.turn(service, context.ticks),
                 None => Turn::Goes,
             };
-            self.follow(rt, service, log, number, turn);
+            self.follow(context.rt, service, log, number, turn);
         }
         for line in 0..self.links.len() {
-            if self.wants(line, ticks) {
-                self.ask(rt, log, sockets, ports, line);
+            if self.wants(line, context.ticks) {
+                self.ask(context, log, first, line);
             }
         }
     }
@@ -246,19 +245,12 @@ impl<'a> Lines<'a> {
     }
 
     /// Asks for the connection of a line.
-    fn ask(
-        &mut self,
-        rt: &HostRuntime,
-        log: &mut Log,
-        sockets: &Sockets<'_>,
-        ports: usize,
-        line: usize,
-    ) {
+    fn ask(&mut self, context: Context<'_>, log: &mut Log, first: usize, line: usize) {
         let Some((number, to)) = self.target(line) else {
             return;
         };
-        if let Err(why) = self.connect(rt, sockets, ports, line, to) {
-            log.line_failed(rt, number, to, why);
+        if let Err(why) = self.connect(context, first, line, to) {
+            log.line_failed(context.rt, number, to, why);
             self.lose(line);
         }
     }
@@ -274,17 +266,18 @@ impl<'a> Lines<'a> {
 
     fn connect(
         &mut self,
-        rt: &HostRuntime,
-        sockets: &Sockets<'_>,
-        ports: usize,
+        context: Context<'_>,
+        first: usize,
         line: usize,
         to: SocketAddr,
     ) -> io::Result<()> {
         let Some(number) = self.free_wire() else {
             return Ok(());
         };
-        let mut stream = TcpStream::connect(rt, to)?;
-        sockets.watch(&mut stream, ports.saturating_add(number))?;
+        let mut stream = TcpStream::connect(context.rt, to)?;
+        context
+            .sockets
+            .watch(&mut stream, first.saturating_add(number))?;
         stream.set_nodelay(true)?;
         if let Some(wire) = self.wires.get_mut(number) {
             wire.ask(stream, to, line);

@@ -10,6 +10,7 @@ mod captures;
 mod checking;
 mod clock;
 mod connecting;
+mod context;
 mod controls;
 mod datagram_line;
 mod equipment;

@@ -3,21 +3,18 @@ use crate::bindings::Bound;
 use crate::captures::Captures;
 use crate::checking::check_octets;
 use crate::clock::micros_since_1970;
-use crate::equipment::Equipment;
 use crate::faults::Fault;
 use crate::files::read_both;
 use crate::first_lines::say_first;
 use crate::log::Log;
-use crate::names::Names;
 use crate::network::{NETWORK, NUMBERS, SERVICE};
 use crate::shares::share_of;
 use crate::shell::Shell;
 use crate::sockets::Sockets;
 use frame_lines::MemLine;
 use line_sim::{Config, MakeFault, mem_lines};
-use net_process::{Process, Share};
 use network_reasons::read_network;
-use service::Service;
+use service::{Process, Service, Share};
 use service_files::{Refusal, ServiceFile, read_document, read_service};
 use std::alloc::{AllocError, Global};
 use std::io::{self, ErrorKind};
@@ -30,9 +27,9 @@ pub(crate) type Running = Service<MemLine>;
 
 /// A network, and the text of its file.
 #[derive(Clone, Copy)]
-struct NetworkFile<'a> {
-    octets: &'a [u8],
-    config: &'a Config,
+pub(crate) struct NetworkFile<'a> {
+    pub(crate) octets: &'a [u8],
+    pub(crate) config: &'a Config,
 }
 
 /// Serves the built-in network, with its terminals and its control port at these addresses, until it is stopped.
@@ -107,12 +104,10 @@ fn serve(
         Err(error) => return Err(Fault::NoLog(error)),
     };
     let sockets = Sockets::open(rt, file)?;
-    let equipment = equipment_on(rt, network, file)?;
     let mut service = service_on(rt, network, file)?;
     let _ = say_first(rt, &sockets, numbers);
-    let names = Names::new(network.config);
     let ports = service.ports();
-    let outcome = match Shell::new(rt, names, file, sockets, equipment, log, ports) {
+    let outcome = match Shell::new(rt, network, file, sockets, log, ports) {
         Ok(shell) => serve_at(rt, name, file, shell, &mut service),
         Err(error) => Err(Fault::from(error)),
     };
@@ -139,16 +134,6 @@ fn serve_at(
     }
     shell.end(rt, service);
     Ok(())
-}
-
-/// The lines to equipment of other makes.
-fn equipment_on(
-    rt: &HostRuntime,
-    network: NetworkFile<'_>,
-    file: &ServiceFile<'_>,
-) -> io::Result<Equipment> {
-    let NetworkFile { octets, config } = network;
-    Equipment::new(rt.alloc(), config, file, octets, micros_since_1970(rt)?)
 }
 
 /// A service on a network, or on what of it is this process's own.

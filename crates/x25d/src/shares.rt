@@ -2,8 +2,8 @@
 use line_carriers::Hello;
 use link_timers::Role;
 use net_config::Config;
-use net_process::Share;
 use remote_lines::{LineEnd, RemoteLine};
+use service::Share;
 use service_files::{End, LineTable, ServiceFile, node_of, own_nodes};
 use std::alloc::{AllocError, Global};
 

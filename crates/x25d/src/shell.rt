@@ -2,6 +2,7 @@
 use crate::bridging::connects;
 use crate::captures::Captures;
 use crate::clock::{self, Clock, TICK_MILLIS};
+use crate::context::Context;
 use crate::controls::{self, Control};
 use crate::equipment::Equipment;
 use crate::lines::Lines;
@@ -10,7 +11,7 @@ use crate::names::Names;
 use crate::places::{Place, places};
 use crate::pumps::{is_busy, read_port, write_port};
 use crate::questions::serve_control;
-use crate::serving::Running;
+use crate::serving::{NetworkFile, Running};
 use crate::sockets::Sockets;
 use crate::visits::{self, Visit};
 use crate::web::serve_visit;
@@ -63,25 +64,27 @@ impl<'a> Shell<'a> {
     /// A shell that begins, without connections at so many ports.
     pub(crate) fn new(
         rt: &HostRuntime,
-        names: Names<'a>,
+        network: NetworkFile<'a>,
         file: &'a ServiceFile<'_>,
         sockets: Sockets<'a>,
-        equipment: Equipment,
         log: Log,
         ports: usize,
     ) -> io::Result<Self> {
+        let alloc = rt.alloc();
+        let NetworkFile { octets, config } = network;
+        let start = clock::micros_since_1970(rt)?;
         Ok(Shell {
-            names,
+            names: Names::new(config),
             connections: file.connections,
-            services: connects(rt.alloc(), file)?,
-            lines: Lines::new(rt.alloc(), file, &sockets)?,
-            equipment,
+            services: connects(alloc, file)?,
+            lines: Lines::new(alloc, file, &sockets)?,
+            equipment: Equipment::new(alloc, config, file, octets, start)?,
             sockets,
-            events: Events::with_capacity(rt.alloc(), MOST_EVENTS)?,
+            events: Events::with_capacity(alloc, MOST_EVENTS)?,
             awake: false,
-            places: places(rt.alloc(), ports)?,
-            controls: controls::places(rt.alloc())?,
-            visits: visits::places(rt.alloc())?,
+            places: places(alloc, ports)?,
+            controls: controls::places(alloc)?,
+            visits: visits::places(alloc)?,
             clock: Clock::new(rt)?,
             log,
             captures: None,
@@ -218,24 +221,26 @@ impl<'a> Shell<'a> {
 
     /// Reads what came on lines to other processes, and asks for connections of those that have none.
     fn turn_lines(&mut self, rt: &HostRuntime, service: &mut Running, ticks: u16) {
-        let ports = self.places.len();
-        self.lines
-            .turn(rt, service, &mut self.log, &self.sockets, ports, ticks);
+        let context = Context {
+            rt,
+            sockets: &self.sockets,
+            ticks,
+        };
+        let first = self.places.len();
+        self.lines.turn(context, service, &mut self.log, first);
     }
 
     /// Moves what is there on lines to equipment, and says whether there was anything.
     fn turn_equipment(&mut self, rt: &HostRuntime, service: &mut Running, ticks: u16) -> bool {
+        let context = Context {
+            rt,
+            sockets: &self.sockets,
+            ticks,
+        };
         let first = self.places.len().saturating_add(self.lines.wires());
         let most = self.left_by_ports();
-        self.equipment.turn(
-            rt,
-            service,
-            &mut self.log,
-            &self.sockets,
-            ticks,
-            first,
-            most,
-        )
+        self.equipment
+            .turn(context, service, &mut self.log, first, most)
     }
 
     /// Writes what was captured. If it cannot be written, the capture ends, and nothing else.

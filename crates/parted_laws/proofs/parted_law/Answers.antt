@@ -4,7 +4,6 @@ use Rattle.parted_laws.proofs.Carrying.{carried, hands_carry, puts_carry, breaks
 use Rattle.parted_laws.proofs.Ticks.{ticks_pass}
 use Rattle.parted_laws.proofs.FirstDue.{first_is_due}
 use Rattle.parted_laws.proofs.Made.{makes_one}
-use Rattle.parted_laws.proofs.Blind.{happens_blind}
 use Rattle.parted_laws.proofs.Runs.{runs_as_one}
 
 pub returns : goal.returns
@@ -17,6 +16,5 @@ returns g c = record {
   carried = carried;
   ticks = ticks_pass;
   due = first_is_due;
-  blind = happens_blind g.L.Line.service;
   run = runs_as_one g.L.Line.service;
 }

@@ -23,7 +23,7 @@ use Rattle.net_nodes.specs.Turns.{AtEnd}
 use Rattle.net_nodes.specs.Steps.{AtNode, AtSwitch, OnOwnLine, AtSwitchEnd, LoseStep, DeliverStep, ExpireStep, RelinkStep}
 use Rattle.net_nodes.specs.Steps.{RestartStep, StepOf, hearer}
 use Rattle.net_nodes.specs.Happening.{Happens}
-use Rattle.parted_laws.specs.Blind.{BlindLaw}
+use Rattle.live_laws.specs.Blind.{BlindLaw}
 
 module _ (L : LineService) where
   abbrev happened : (event : NodeEvent) (line : ℕ) (role : Role) (s t : Network) → HappenedAt L event line role s t → HappenedAt (blind L) event line role s t
