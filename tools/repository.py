@@ -40,6 +40,12 @@ def crates():
     return [it.split(":")[0].split()[0] for it in lines_of_crates() if ":" in it]
 
 
+def libraries():
+    """The libraries that each crate lists."""
+    lines = [it.split(":") for it in lines_of_crates() if ":" in it]
+    return {head.split()[0]: names.split() for head, names in lines}
+
+
 def layers():
     """The headings of crates.txt, each with its crates."""
     found = []
