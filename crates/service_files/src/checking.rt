@@ -4,6 +4,7 @@ ghost use Rattle.toml.specs.View.{table_view};
 ghost use Rattle.service_files.specs.Reads.{text_at};
 ghost use Rattle.service_files.specs.Checks.{Names};
 
+use crate::file::ServiceFile;
 use crate::line_rules::{first_broken_line, own_nodes};
 use crate::line_telling::tell_broken_line;
 use crate::reading::{read_document, read_service};
@@ -11,6 +12,7 @@ use crate::refusal::Refusal;
 use crate::rules::first_broken_binding;
 use crate::telling::{tell_bindings, tell_broken};
 use crate::values::text_at;
+use net_config::Config;
 use network_reasons::{Checked, read_network};
 use std::alloc::{AllocError, Global};
 use std::fmt::Write;
@@ -58,20 +60,38 @@ fn tell_service(
 ) -> Result<(), Refusal> {
     let document = read_document(alloc, out, octets)?;
     let file = read_service(alloc, out, &document)?;
+    let config = config_of(alloc, out, network)?;
+    tell_fit(alloc, out, &config, &file)
+}
+
+/// The network of a file. What is wrong with it first is told.
+fn config_of(alloc: Global, out: &mut String, network: &[u8]) -> Result<Config, Refusal> {
     let mut told = String::new(alloc);
-    let Some(config) = read_network(alloc, &mut told, network)? else {
-        write!(out, "network: {told}")?;
-        return Err(Refusal::Told);
-    };
-    if let Some(broken) = first_broken_binding(&config, &file) {
-        tell_broken(alloc, out, &config, &file, broken)?;
+    match read_network(alloc, &mut told, network)? {
+        Some(config) => Ok(config),
+        None => {
+            write!(out, "network: {told}")?;
+            Err(Refusal::Told)
+        }
+    }
+}
+
+/// Tells what does not fit first; if all fits, what each binding is.
+fn tell_fit(
+    alloc: Global,
+    out: &mut String,
+    config: &Config,
+    file: &ServiceFile<'_>,
+) -> Result<(), Refusal> {
+    if let Some(broken) = first_broken_binding(config, file) {
+        tell_broken(alloc, out, config, file, broken)?;
         return Err(Refusal::Told);
     }
-    let own = own_nodes(alloc, &config, &file)?;
-    match first_broken_line(&config, &file, own.as_slice()) {
-        None => Ok(tell_bindings(out, &config, &file)?),
+    let own = own_nodes(alloc, config, file)?;
+    match first_broken_line(config, file, own.as_slice()) {
+        None => Ok(tell_bindings(out, config, file)?),
         Some(broken) => {
-            tell_broken_line(out, &config, &file, broken)?;
+            tell_broken_line(out, config, file, broken)?;
             Err(Refusal::Told)
         }
     }

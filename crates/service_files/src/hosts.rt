@@ -1,9 +1,11 @@
 //! How the tables of hosts are read: of services that they are, and of callers.
-ghost use Rattle.std.specs.Prelude.{◌≡◌, IfOk, option_map};
+ghost use Rattle.std.specs.Prelude.{◌≡◌, [], IfOk, codes, option_map, unwrap_or};
+ghost use Rattle.std.specs.Net.Grammar.{IsSocketText};
 ghost use Rattle.toml.specs.View.{table_view};
-ghost use Rattle.service_files.specs.Reads.{Reads};
-ghost use Rattle.service_files.specs.Says.{at_reset_of, builtin_of, SaysHost, SaysConnect, SaysService, SaysUserData, SaysCaller};
+ghost use Rattle.service_files.specs.Reads.{Reads, text_at};
+ghost use Rattle.service_files.specs.Says.{at_reset_of, builtin_of, SaysHost, SaysConnect, SaysService, SaysAllow, SaysUserData, SaysCaller};
 
+use crate::addresses::Allow;
 use crate::file::{BuiltInName, CallerTable, Connect, HostService, ServiceTable};
 use crate::keys::{CALLER, OF_CONNECT, SERVICE};
 use crate::places::{Place, look_at, refuse_keys, tell_at, tell_place};
@@ -13,6 +15,7 @@ use bridge_ports::AtReset;
 use hex::FromHexError;
 use std::alloc::Global;
 use std::fmt::Write;
+use std::net::SocketAddr;
 use toml::Table;
 
 /// After how many ticks a connection to a service must stand, if the file does not say.
@@ -116,15 +119,33 @@ pub(crate) fn read_caller<'a>(
     ensures { IfOk result (SaysCaller (table_view table.entry.now)) }
 {
     look_at(alloc, out, place, &CALLER, table)?;
-    Ok(CallerTable {
+    let user_data = read_user_data(alloc, out, place, text_at(table, "user_data"))?;
+    let allow = read_allow(alloc, out, place, table)?;
+    let listen = read_address(out, place, "listen", text_at(table, "listen").unwrap_or(""))?;
+    Ok(caller_of(table, listen, allow, user_data))
+}
+
+/// The caller of a table, at this address and for these clients, with this user data.
+fn caller_of<'a>(
+    table: &'a Table,
+    listen: SocketAddr,
+    allow: Allow,
+    user_data: Vec<u8>,
+) -> CallerTable<'a>
+    requires listen { IsSocketText (unwrap_or (text_at (codes "listen") (table_view table.now)) []) listen }
+    requires allow { SaysAllow (table_view table.now) allow }
+    requires user_data { SaysUserData (text_at (codes "user_data") (table_view table.now)) user_data }
+    ensures { SaysCaller (table_view table.entry.now) result }
+{
+    CallerTable {
         host: text_at(table, "host").unwrap_or(""),
         call: text_at(table, "call").unwrap_or(""),
         at_reset: at_reset_of(text_at(table, "at_reset")),
         linger: number_at(table, "linger").unwrap_or(CALLER_LINGER),
-        user_data: read_user_data(alloc, out, place, text_at(table, "user_data"))?,
-        allow: read_allow(alloc, out, place, table)?,
-        listen: read_address(out, place, "listen", text_at(table, "listen").unwrap_or(""))?,
-    })
+        user_data,
+        allow,
+        listen,
+    }
 }
 
 /// Reads up to 16 octets in hexadecimal, none if there is no text.

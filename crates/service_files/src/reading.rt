@@ -1,11 +1,12 @@
 //! How a service file is read.
-ghost use Rattle.std.specs.Prelude.{◌≡◌, IfOk, option_map};
+ghost use Rattle.std.specs.Prelude.{◌≡◌, [], IfOk, codes, option_map, unwrap_or};
+ghost use Rattle.std.specs.Net.Grammar.{IsSocketText};
 ghost use Rattle.toml.specs.View.{view, table_view, items_view};
 ghost use Rattle.service_files.specs.Reads.{Reads, ReadsAs};
-ghost use Rattle.service_files.specs.Reads.{EachSays, IsDocument, IsTable};
-ghost use Rattle.service_files.specs.Says.{mode_of, SaysControl, SaysConnections, SaysWeb, IsPage, SaysTerminals, SaysService, SaysCaller};
+ghost use Rattle.service_files.specs.Reads.{EachSays, IsDocument, IsTable, text_at};
+ghost use Rattle.service_files.specs.Says.{mode_of, SaysControl, SaysConnections, SaysAllow, SaysWeb, IsPage, SaysTerminals, SaysService, SaysCaller};
 
-use crate::addresses::is_here;
+use crate::addresses::{Allow, is_here};
 use crate::file::{CallerTable, ServiceFile, ServiceTable, TerminalsTable};
 use crate::hosts::{read_caller, read_host};
 use crate::keys::{DOCUMENT, LIMITS, TERMINALS, WEB};
@@ -50,17 +51,47 @@ pub fn read_service<'a>(
 ) -> Result<ServiceFile<'a>, Refusal> {
     look_at(alloc, out, Place::Document, &DOCUMENT, document)?;
     let control = read_control(out, text_at(document, "control"))?;
+    let web = read_web(alloc, out, control, table_at(document, "web"))?;
+    let connections = read_connections(alloc, out, document)?;
+    let users = read_users(alloc, out, document)?;
+    let lines = read_lines(alloc, out, items_at(document, "line"))?;
+    let capture = read_capture(alloc, out, table_at(document, "capture"))?;
+    let UserTables {
+        terminals,
+        services,
+        callers,
+    } = users;
     Ok(ServiceFile {
         network: text_at(document, "network").unwrap_or(""),
         log: text_at(document, "log"),
         control,
-        web: read_web(alloc, out, control, table_at(document, "web"))?,
-        connections: read_connections(alloc, out, document)?,
+        web,
+        connections,
+        terminals,
+        services,
+        callers,
+        lines,
+        capture,
+    })
+}
+
+/// The tables of who uses the network.
+#[derive(Drop)]
+struct UserTables<'a> {
+    terminals: Vec<TerminalsTable<'a>>,
+    services: Vec<ServiceTable<'a>>,
+    callers: Vec<CallerTable<'a>>,
+}
+
+fn read_users<'a>(
+    alloc: Global,
+    out: &mut String,
+    document: &'a Table,
+) -> Result<UserTables<'a>, Refusal> {
+    Ok(UserTables {
         terminals: read_terminals(alloc, out, items_at(document, "terminals"))?,
         services: read_services(alloc, out, items_at(document, "service"))?,
         callers: read_callers(alloc, out, items_at(document, "caller"))?,
-        lines: read_lines(alloc, out, items_at(document, "line"))?,
-        capture: read_capture(alloc, out, table_at(document, "capture"))?,
     })
 }
 
@@ -162,16 +193,27 @@ fn read_binding<'a>(
     ensures { IfOk result (SaysTerminals (table_view table.entry.now)) }
 {
     look_at(alloc, out, place, &TERMINALS, table)?;
-    Ok(TerminalsTable {
+    let allow = read_allow(alloc, out, place, table)?;
+    let listen = read_address(out, place, "listen", text_at(table, "listen").unwrap_or(""))?;
+    Ok(binding_of(table, listen, allow))
+}
+
+/// The binding of a table, at this address and for these clients.
+fn binding_of<'a>(table: &'a Table, listen: SocketAddr, allow: Allow) -> TerminalsTable<'a>
+    requires listen { IsSocketText (unwrap_or (text_at (codes "listen") (table_view table.now)) []) listen }
+    requires allow { SaysAllow (table_view table.now) allow }
+    ensures { SaysTerminals (table_view table.entry.now) result }
+{
+    TerminalsTable {
         pad: text_at(table, "pad").unwrap_or(""),
         first: number_at(table, "first").unwrap_or(0),
         last: number_at(table, "last"),
         mode: mode_of(text_at(table, "mode")),
         greeting: text_at(table, "greeting"),
         idle: number_at(table, "idle").unwrap_or(0),
-        allow: read_allow(alloc, out, place, table)?,
-        listen: read_address(out, place, "listen", text_at(table, "listen").unwrap_or(""))?,
-    })
+        allow,
+        listen,
+    }
 }
 
 fn mode_of(word: Option<&str>) -> Mode

@@ -22,14 +22,10 @@ pub fn status_json(alloc: Global, status: &Status<'_>) -> Result<String, AllocEr
 fn status_value(alloc: Global, status: &Status<'_>) -> Result<Value, AllocError>
     ensures { IfOk result (λ value. view value ≡ status_data status.now) }
 {
-    let nodes = nodes_value(alloc, &status.nodes)?;
-    let lines = lines_value(alloc, &status.lines)?;
-    let counts = counts_value(alloc, status.counts)?;
-    let calls = calls_value(alloc, &status.calls)?;
-    let ports = ports_value(alloc, &status.ports)?;
     let (version, seconds) = (status.version, status.seconds);
-    json!(in alloc; {"version": version, "seconds": seconds, "nodes": nodes, "lines": lines, "counts": counts,
-        "calls": calls, "ports": ports})
+    json!(in alloc; {"version": version, "seconds": seconds, "nodes": nodes_value(alloc, &status.nodes)?,
+        "lines": lines_value(alloc, &status.lines)?, "counts": counts_value(alloc, status.counts)?,
+        "calls": calls_value(alloc, &status.calls)?, "ports": ports_value(alloc, &status.ports)?})
 }
 
 fn nodes_value(alloc: Global, nodes: &[NodeLine<'_>]) -> Result<Value, AllocError>
@@ -89,12 +85,10 @@ fn calls_value(alloc: Global, calls: &[CallLine<'_>]) -> Result<Value, AllocErro
 fn call_value(alloc: Global, call: &CallLine<'_>) -> Result<Value, AllocError>
     ensures { IfOk result (λ value. view value ≡ call_data call.now) }
 {
-    let over = numbers_value(alloc, &call.over)?;
-    let octets = octets_value(alloc, call.octets)?;
     let (from, to, node) = (call.from.as_str(), call.to.as_str(), call.node);
     let (channel, since) = (call.channel, call.since);
-    json!(in alloc; {"from": from, "to": to, "node": node, "channel": channel, "since": since, "octets": octets,
-        "over": over})
+    json!(in alloc; {"from": from, "to": to, "node": node, "channel": channel, "since": since,
+        "octets": octets_value(alloc, call.octets)?, "over": numbers_value(alloc, &call.over)?})
 }
 
 fn octets_value(alloc: Global, octets: Option<CallOctets>) -> Result<Value, AllocError>

@@ -4,7 +4,7 @@ use crate::captures::Captures;
 use crate::checking::check_octets;
 use crate::clock::micros_since_1970;
 use crate::faults::Fault;
-use crate::files::read_both;
+use crate::files::{Octets, read_both};
 use crate::first_lines::say_first;
 use crate::log::Log;
 use crate::network::{NETWORK, NUMBERS, SERVICE};
@@ -56,13 +56,26 @@ pub(crate) fn serve_built_in(
 /// Serves what a service file says, until it is stopped, and says whether it can be served. If not, what is wrong first
 /// is told on standard error.
 pub(crate) fn serve_file(rt: &HostRuntime, name: &str) -> Result<bool, Fault> {
-    let alloc = rt.alloc();
     let octets = read_both(rt, name)?;
-    let checked = check_octets(alloc, &octets)?;
-    if !checked.is_right {
-        eprint!(rt; "{}", checked.text)?;
+    if !is_right(rt, &octets)? {
         return Ok(false);
     }
+    serve_octets(rt, Path::new(name), &octets)?;
+    Ok(true)
+}
+
+/// Whether a service file can be served. If not, what is wrong first is told on standard error.
+fn is_right(rt: &HostRuntime, octets: &Octets) -> Result<bool, Fault> {
+    let checked = check_octets(rt.alloc(), octets)?;
+    if !checked.is_right {
+        eprint!(rt; "{}", checked.text)?;
+    }
+    Ok(checked.is_right)
+}
+
+/// Serves a file of this name that was checked.
+fn serve_octets(rt: &HostRuntime, name: Path<'_>, octets: &Octets) -> Result<(), Fault> {
+    let alloc = rt.alloc();
     let document = document_of(alloc, octets.service.as_slice())?;
     let file = file_of(alloc, &document)?;
     let config = config_of(alloc, octets.network.as_slice())?;
@@ -70,8 +83,7 @@ pub(crate) fn serve_file(rt: &HostRuntime, name: &str) -> Result<bool, Fault> {
         octets: octets.network.as_slice(),
         config: &config,
     };
-    serve_beside(rt, Path::new(name), network, &file)?;
-    Ok(true)
+    serve_beside(rt, name, network, &file)
 }
 
 /// Serves a file of this name. Its log, if it names one, lies beside it.
