@@ -43,14 +43,26 @@ impl Equipment {
             gateways: Vec::new(alloc),
             datagrams: Vec::new(alloc),
         };
+        equipment.add_all(alloc, config, file, network, start)?;
+        Ok(equipment)
+    }
+
+    fn add_all(
+        &mut self,
+        alloc: Global,
+        config: &Config,
+        file: &ServiceFile<'_>,
+        network: &[u8],
+        start: u64,
+    ) -> io::Result<()> {
         for (place, table) in file.lines.iter().enumerate() {
             if let Some(end) = far_end(config, table) {
                 let remote = line_of(alloc, table, end, network, start)?;
                 let far = FarEnd::new(place, table.line, remote);
-                equipment.add(alloc, config, file, table, far)?;
+                self.add(alloc, config, file, table, far)?;
             }
         }
-        Ok(equipment)
+        Ok(())
     }
 
     /// Adds the line of a table, if equipment is at its far end.

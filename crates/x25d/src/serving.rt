@@ -120,7 +120,7 @@ fn serve(
     let _ = say_first(rt, &sockets, numbers);
     let ports = service.ports();
     let outcome = match Shell::new(rt, network, file, sockets, log, ports) {
-        Ok(shell) => serve_at(rt, name, file, shell, &mut service),
+        Ok(mut shell) => serve_at(rt, name, file, &mut shell, &mut service),
         Err(error) => Err(Fault::from(error)),
     };
     service.release();
@@ -132,7 +132,7 @@ fn serve_at(
     rt: &HostRuntime,
     name: Path<'_>,
     file: &ServiceFile<'_>,
-    mut shell: Shell<'_>,
+    shell: &mut Shell<'_>,
     service: &mut Running,
 ) -> Result<(), Fault> {
     if let Some(table) = file.capture.as_ref() {

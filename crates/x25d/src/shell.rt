@@ -18,6 +18,7 @@ use crate::web::serve_visit;
 use mio::{Events, Token};
 use service::Order;
 use service_files::{Connect, ServiceFile};
+use std::alloc::{AllocError, Global};
 use std::io;
 
 /// How many events the system tells at once.
@@ -34,6 +35,48 @@ const MOST_ROUNDS: u32 = 16;
 
 /// How often the service has rounds in one turn.
 const MOST_PASSES: u32 = 4;
+
+/// All lines whose other ends are elsewhere.
+#[derive(Drop)]
+struct Remote<'a> {
+    lines: Lines<'a>,
+    equipment: Equipment,
+}
+
+impl<'a> Remote<'a> {
+    fn new(
+        rt: &HostRuntime,
+        network: NetworkFile<'_>,
+        file: &'a ServiceFile<'_>,
+        sockets: &Sockets<'_>,
+    ) -> io::Result<Self> {
+        let alloc = rt.alloc();
+        let NetworkFile { octets, config } = network;
+        let start = clock::micros_since_1970(rt)?;
+        let lines = Lines::new(alloc, file, sockets)?;
+        let equipment = Equipment::new(alloc, config, file, octets, start)?;
+        Ok(Remote { lines, equipment })
+    }
+}
+
+/// All places for those who come.
+#[derive(Drop)]
+struct Guests {
+    places: Vec<Place>,
+    controls: Vec<Option<Control>>,
+    visits: Vec<Option<Visit>>,
+}
+
+impl Guests {
+    /// Places for connections at so many ports.
+    fn new(alloc: Global, ports: usize) -> Result<Self, AllocError> {
+        Ok(Guests {
+            places: places(alloc, ports)?,
+            controls: controls::places(alloc)?,
+            visits: visits::places(alloc)?,
+        })
+    }
+}
 
 /// All that the shell has.
 #[derive(Drop)]
@@ -71,21 +114,30 @@ impl<'a> Shell<'a> {
         ports: usize,
     ) -> io::Result<Self> {
         let alloc = rt.alloc();
-        let NetworkFile { octets, config } = network;
-        let start = clock::micros_since_1970(rt)?;
+        let clock = Clock::new(rt)?;
+        let remote = Remote::new(rt, network, file, &sockets)?;
+        let guests = Guests::new(alloc, ports)?;
+        let services = connects(alloc, file)?;
+        let events = Events::with_capacity(alloc, MOST_EVENTS)?;
+        let Remote { lines, equipment } = remote;
+        let Guests {
+            places,
+            controls,
+            visits,
+        } = guests;
         Ok(Shell {
-            names: Names::new(config),
+            names: Names::new(network.config),
             connections: file.connections,
-            services: connects(alloc, file)?,
-            lines: Lines::new(alloc, file, &sockets)?,
-            equipment: Equipment::new(alloc, config, file, octets, start)?,
+            services,
+            lines,
+            equipment,
             sockets,
-            events: Events::with_capacity(alloc, MOST_EVENTS)?,
+            events,
             awake: false,
-            places: places(alloc, ports)?,
-            controls: controls::places(alloc)?,
-            visits: visits::places(alloc)?,
-            clock: Clock::new(rt)?,
+            places,
+            controls,
+            visits,
+            clock,
             log,
             captures: None,
             busy: false,
@@ -221,24 +273,24 @@ impl<'a> Shell<'a> {
 
     /// Reads what came on lines to other processes, and asks for connections of those that have none.
     fn turn_lines(&mut self, rt: &HostRuntime, service: &mut Running, ticks: u16) {
+        let first = self.places.len();
         let context = Context {
             rt,
             sockets: &self.sockets,
             ticks,
         };
-        let first = self.places.len();
         self.lines.turn(context, service, &mut self.log, first);
     }
 
     /// Moves what is there on lines to equipment, and says whether there was anything.
     fn turn_equipment(&mut self, rt: &HostRuntime, service: &mut Running, ticks: u16) -> bool {
+        let first = self.places.len().saturating_add(self.lines.wires());
+        let most = self.left_by_ports();
         let context = Context {
             rt,
             sockets: &self.sockets,
             ticks,
         };
-        let first = self.places.len().saturating_add(self.lines.wires());
-        let most = self.left_by_ports();
         self.equipment
             .turn(context, service, &mut self.log, first, most)
     }

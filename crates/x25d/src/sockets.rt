@@ -69,24 +69,30 @@ impl<'a> Sockets<'a> {
     /// Opens the sockets of a service file.
     pub(crate) fn open(rt: &HostRuntime, file: &'a ServiceFile<'_>) -> Result<Self, Fault> {
         let mut sockets = Sockets::without_doors(rt)?;
+        sockets.add_all(rt, file)?;
+        Ok(sockets)
+    }
+
+    /// Opens the doors of all tables, and the sockets for datagrams.
+    fn add_all(&mut self, rt: &HostRuntime, file: &'a ServiceFile<'_>) -> Result<(), Fault> {
         for (place, table) in file.terminals.iter().enumerate() {
             let leads = Leads::Terminals(place, table.mode, table.pad);
-            sockets.add(rt, table.listen, leads, Some(&table.allow))?;
+            self.add(rt, table.listen, leads, Some(&table.allow))?;
         }
         for (place, table) in file.callers.iter().enumerate() {
             let leads = Leads::Caller(place, table.host);
-            sockets.add(rt, table.listen, leads, Some(&table.allow))?;
+            self.add(rt, table.listen, leads, Some(&table.allow))?;
         }
         for table in &file.lines {
-            sockets.add_line(rt, table)?;
+            self.add_line(rt, table)?;
         }
         if let Some(web) = file.web {
-            sockets.add(rt, web, Leads::Web, None)?;
+            self.add(rt, web, Leads::Web, None)?;
         }
         if let Some(control) = file.control {
-            sockets.add(rt, control, Leads::Control, None)?;
+            self.add(rt, control, Leads::Control, None)?;
         }
-        Ok(sockets)
+        Ok(())
     }
 
     /// Opens the socket of a line, if it has one and shares none.
