@@ -117,10 +117,12 @@ fn serve(
     };
     let sockets = Sockets::open(rt, file)?;
     let mut service = service_on(rt, network, file)?;
-    let _ = say_first(rt, &sockets, numbers);
     let ports = service.ports();
     let outcome = match Shell::new(rt, network, file, sockets, log, ports) {
-        Ok(mut shell) => serve_at(rt, name, file, &mut shell, &mut service),
+        Ok(mut shell) => {
+            let _ = say_first(rt, &shell.sockets, numbers);
+            serve_at(rt, name, file, &mut shell, &mut service)
+        }
         Err(error) => Err(Fault::from(error)),
     };
     service.release();
