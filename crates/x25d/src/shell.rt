@@ -59,7 +59,7 @@ impl<'a> Remote<'a> {
     }
 }
 
-/// All places for those who come.
+/// All places for connections: of ports, at the control port, and of the page.
 #[derive(Drop)]
 struct Guests {
     places: Vec<Place>,
