@@ -18,7 +18,7 @@ ghost use Rattle.call_records.specs.RecordView.{shown, pair_of, step_of, grown, 
 ghost use Rattle.call_records.specs.RecordView.{PlacesAt, NoPlacesAt, AreCounted, hop_of};
 
 use crate::ends::{Ends, Side, Slot};
-use crate::record::{EditStep, Growth, Hop, Pair, Record};
+use crate::record::{Addresses, EditStep, Growth, Hop, Pair, Record};
 use epochs::{Interrupt, Passed, PassedPacket};
 use link_timers::Role;
 use packet_codec::{Address, CallBuf, CallData};
@@ -93,8 +93,12 @@ impl Book {
         let mut records = Vec::with_capacity(alloc, FIRST_PLACES)?;
         let mut pairs = Vec::with_capacity(alloc, FIRST_PLACES)?;
         if standing {
-            let caller = Record::new(alloc, &mut spare, 0, dte_node, None, None, None);
-            let callee = Record::new(alloc, &mut spare, 1, dce_node, None, None, Some(0));
+            let unknown = Addresses {
+                own: None,
+                far: None,
+            };
+            let caller = Record::new(alloc, &mut spare, 0, dte_node, unknown, None);
+            let callee = Record::new(alloc, &mut spare, 1, dce_node, unknown, Some(0));
             records.push_reserved(caller);
             records.push_reserved(callee);
             pairs.push_reserved(Pair {
@@ -244,15 +248,17 @@ impl Book {
         let number = self.records.len();
         let here = self.ends.of(role);
         let node = here.node();
-        let own = here.address();
-        let far = recorded(called);
+        let addresses = Addresses {
+            own: here.address(),
+            far: recorded(called),
+        };
         let slot = Slot {
             present: Some(number),
             placed: Some(number),
             caller: None,
         };
         let spare = &mut self.spare;
-        self.records.push_reserved(Record::new(self.alloc, spare, number, node, own, far, None));
+        self.records.push_reserved(Record::new(self.alloc, spare, number, node, addresses, None));
         self.ends.put(role, channel, slot);
         self.room = 0;
         self.places = 0;
@@ -274,15 +280,12 @@ impl Book {
             caller,
         };
         let data = call.data();
-        self.records.push_reserved(Record::new(
-            self.alloc,
-            &mut self.spare,
-            number,
-            node,
-            Some(data.called),
-            calling_of(&data),
-            caller,
-        ));
+        let addresses = Addresses {
+            own: Some(data.called),
+            far: calling_of(&data),
+        };
+        let spare = &mut self.spare;
+        self.records.push_reserved(Record::new(self.alloc, spare, number, node, addresses, caller));
         self.ends.put(role, channel, slot);
         self.room = 0;
         self.places = 0;

@@ -1,5 +1,5 @@
 //! What a network keeps of each end's part in a call, and which two of these make a call.
-ghost use Rattle.std.specs.Prelude.{◌≡◌, ◌≤◌, ℕ, OnOk};
+ghost use Rattle.std.specs.Prelude.{◌≡◌, ◌≤◌, OnOk};
 ghost use Rattle.call_records.specs.Records.{new_record, with_epoch, with_hop};
 ghost use Rattle.call_records.specs.RecordView.{shown, grown, needed, left, Fits, HasPlaces, HasNoPlaces, IsCounted, hop_of};
 
@@ -105,6 +105,13 @@ impl Growth<'_> {
     }
 }
 
+/// The addresses of a call, as one of its ends sees them. An end without an address has none.
+#[derive(Clone, Copy)]
+pub(crate) struct Addresses {
+    pub(crate) own: Option<Address>,
+    pub(crate) far: Option<Address>,
+}
+
 impl Record {
     /// The record of an end's part in a new call, with the room of spare lists, if there are any.
     pub(crate) fn new(
@@ -112,18 +119,17 @@ impl Record {
         spare: &mut Vec<Passed>,
         number: usize,
         node: usize,
-        own: Option<Address>,
-        far: Option<Address>,
+        addresses: Addresses,
         caller: Option<usize>,
     ) -> Self
-        ensures shown { shown result ≡ new_record number node own far caller }
+        ensures shown { shown result ≡ new_record number node addresses.own addresses.far caller }
         ensures counted { IsCounted result }
     {
         Record {
             number,
             node,
-            own,
-            far,
+            own: addresses.own,
+            far: addresses.far,
             caller,
             path: ArrayVec::new(),
             sent: Passed::from_spare(alloc, spare),

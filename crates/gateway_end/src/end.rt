@@ -28,6 +28,7 @@ use line_end::LineEnd;
 use link_timers::Role;
 use std::alloc::Global;
 use std::marker::Model;
+use std::ops::Deref;
 use xot_codec::XotPacket;
 use xot_gateway::{Work, XotCalls};
 
@@ -39,7 +40,8 @@ const BUFFERS: usize = 8;
 ///
 /// An event is a frame that comes, time that passes, a link that is given up, or what happens at a connection, and then
 /// `finish`. Then the frames are taken by `out`. A packet of the calls that the link does not take waits, and goes
-/// before all others; it is lost only with the session of the link.
+/// before all others; it is lost only with the session of the link. What asks about the calls, without a change, is a
+/// call of [`XotCalls`].
 #[derive(Drop)]
 pub struct GatewayEnd {
     line: LineEnd,
@@ -63,6 +65,16 @@ impl Model for GatewayEnd {
     ghost view = { end_of };
 
     ghost invariant = { IsEnd };
+}
+
+impl Deref for GatewayEnd {
+    type Target = XotCalls;
+
+    fn deref(&self) -> &XotCalls
+        ensures { result.now ≡ self.now.calls }
+    {
+        &self.calls
+    }
 }
 
 impl GatewayEnd {

@@ -1,6 +1,5 @@
 //! The network, and what it promises.
 ghost use Rattle.std.specs.Prelude.{◌≡◌, ◌≢◌, ◌≤◌, ◌↔◌, true, false, map, Err, IsTrue, IsOkUnless, IfOk, vec_len};
-ghost use Rattle.std.specs.Bool.{OnTrue};
 ghost use Rattle.call_records.specs.RecordView.{shown, pair_of};
 ghost use Rattle.call_records.specs.Pairs.{AllMatch};
 ghost use Rattle.net_events.specs.Network.{all_elapsed};
@@ -10,10 +9,10 @@ ghost use Rattle.net_config.specs.declared.fault.MakeFault.TheVariants as make_f
 ghost use Rattle.net_config.specs.Served.{is_served};
 ghost use Rattle.net_events.specs.declared.event.StepFault.TheVariants as step_fault_is;
 ghost use Rattle.net_nodes.specs.Faults.{step_fault, takes_memory};
-ghost use Rattle.net_nodes.specs.Happening.{IsRefusedSo, FindsNoFrame, FindNoFrames};
-ghost use Rattle.net_nodes.specs.Due.{net_due, net_due_at};
+ghost use Rattle.net_nodes.specs.Happening.{IsRefusedSo, FindNoFrames};
+ghost use Rattle.net_nodes.specs.Due.{net_due};
 ghost use Rattle.line_sim.specs.Receipts.{IsTakenBeyond};
-ghost use Rattle.net_nodes.specs.Questions.{net_confirmed, net_shows, net_has_to_take, net_room_to_say, net_rests};
+ghost use Rattle.net_nodes.specs.Questions.{net_confirmed, net_shows, net_room_to_say, net_rests};
 ghost use Rattle.net_nodes.specs.Questions.{MaySay, PrintsNothing};
 ghost use Rattle.line_sim.specs.Courses.{HaveNoEvent, CoursesPass};
 ghost use Rattle.line_sim.specs.Runs.{IsMadeBy};
@@ -22,17 +21,19 @@ use crate::busy_lines::note_frames;
 use crate::making::made_nodes;
 use call_records::{Pair, Record, all_match};
 use frame_codec::FrameBuf;
-use frame_lines::{Direction, Line};
+use frame_lines::Line;
 use net_config::{Config, MakeFault, plan_of};
 use net_events::{Answer, Event, Outcome, Puts, StepFault};
 use net_nodes::Nodes;
 use std::alloc::Global;
 use std::marker::Model;
+use std::ops::Deref;
 use wide_set::WideSet;
 
 /// A network of PADs and hosts, each at one end of one line, and of at most 16 switches. A line is between a PAD or a
 /// host, as DTE, and a host or a switch, as DCE, or it is a trunk between two switches; the trunks make trees of them.
-/// The network may fall into parts. A line from a PAD to a host may have a standing call if it is the only line.
+/// The network may fall into parts. A line from a PAD to a host may have a standing call if it is the only line. What
+/// asks about the nodes, without a change, is a call of [`Nodes`], if the network does not promise more.
 #[derive(Drop)]
 pub struct Net<L: Line> {
     nodes: Nodes<L>,
@@ -66,6 +67,16 @@ fn bare_answer(alloc: Global) -> Answer {
         notes: Vec::new(alloc),
         text: Vec::new(alloc),
         outcome: Outcome::Done,
+    }
+}
+
+impl<L: Line> Deref for Net<L> {
+    type Target = Nodes<L>;
+
+    fn deref(&self) -> &Nodes<L>
+        ensures { result.now ≡ self.now }
+    {
+        &self.nodes
     }
 }
 
@@ -164,13 +175,6 @@ impl<L: Line> Net<L> {
         self.nodes.shows(node, terminal)
     }
 
-    /// Whether the node of this place is a host, and anything waits to be taken on the channel.
-    pub fn has_to_take(&self, node: usize, channel: u16) -> bool
-        ensures { result ≡ net_has_to_take node channel self.now }
-    {
-        self.nodes.has_to_take(node, channel)
-    }
-
     /// How many octets a message without Q may have now on the channel of the host of this place, at most 1,024: so many
     /// are not refused, if there are any. At any other node it is 0.
     pub fn room_to_say(&self, node: usize, channel: u16) -> usize
@@ -196,22 +200,6 @@ impl<L: Line> Net<L> {
         ensures { result ≡ net_due self.now }
     {
         self.nodes.next_due()
-    }
-
-    /// The expiry of the first timer that runs with no tick left at the node of this place; at a switch on the first of
-    /// its lines that has one.
-    pub fn next_due_at(&self, node: usize) -> Option<Event>
-        ensures { result ≡ net_due_at node self.now }
-    {
-        self.nodes.next_due_at(node)
-    }
-
-    /// Whether it is certain that a delivery on the line in this direction finds no frame: it would change nothing, and
-    /// tell nothing. A line that does not know says no, and so does one that is not there.
-    pub fn finds_none(&self, line: usize, direction: Direction) -> bool
-        ensures { OnTrue result (FindsNoFrame L.service line direction self.now) }
-    {
-        self.nodes.finds_none(line, direction)
     }
 
     /// A number from this one on: it is certain that deliveries on the lines before it find no frame, either way. It is

@@ -1,15 +1,13 @@
 //! The network on which a service runs.
-ghost use Rattle.std.specs.Prelude.{◌≡◌, ◌≢◌, ◌≤◌, true, false, Err, IsOkUnless, IfOk, vec_len};
-ghost use Rattle.std.specs.Bool.{OnTrue};
+ghost use Rattle.std.specs.Prelude.{◌≡◌, ◌≢◌, true, false, Err, IsOkUnless, IfOk, vec_len};
 ghost use Rattle.call_records.specs.Register.{Register, HasNoRecords};
 ghost use Rattle.net_config.specs.declared.fault.MakeFault.TheVariants as make_fault_is;
 ghost use Rattle.net_config.specs.Served.{is_served};
 ghost use Rattle.net_events.specs.Network.{all_elapsed};
 ghost use Rattle.net_events.specs.declared.event.StepFault.TheVariants as step_fault_is;
-ghost use Rattle.net_nodes.specs.Due.{net_due};
 ghost use Rattle.net_nodes.specs.Faults.{step_fault};
-ghost use Rattle.net_nodes.specs.Happening.{IsRefusedSo, FindsNoFrame, FindNoFrames};
-ghost use Rattle.net_nodes.specs.Questions.{net_confirmed, net_shows, net_has_to_take, net_room_to_say, net_rests};
+ghost use Rattle.net_nodes.specs.Happening.{IsRefusedSo};
+ghost use Rattle.net_nodes.specs.Questions.{net_confirmed, net_shows, net_room_to_say, net_rests};
 ghost use Rattle.net_nodes.specs.Questions.{MaySay, PrintsNothing};
 ghost use Rattle.network_laws.specs.Switched.InnerPromise.{NetworkPromise};
 ghost use Rattle.network_laws.specs.Switched.SwitchedRest.{MissesNothing, IsDelivered};
@@ -23,17 +21,19 @@ ghost use Rattle.live_net.specs.Making.{register_made};
 
 use crate::making::{bare_nodes, roomy_answer};
 use frame_codec::FrameBuf;
-use frame_lines::{Direction, Line};
+use frame_lines::Line;
 use net_config::{Config, MakeFault};
 use net_events::{Answer, Event, StepFault};
 use net_nodes::Nodes;
 use std::alloc::Global;
 use std::marker::Model;
+use std::ops::Deref;
 
 /// A network as [`line_sim::Net`] is, that keeps no records: what an event writes of calls is forgotten at its end.
 ///
 /// Its promise is that of `Net`, with registers that nobody stores. With each register with which all holds before an
-/// event, there is one with which all holds after it. With these two the network stepped as `Net` does.
+/// event, there is one with which all holds after it. With these two the network stepped as `Net` does. What asks about
+/// the nodes, without a change, is a call of [`Nodes`], if the network does not promise more.
 #[derive(Drop)]
 pub struct LiveNet<L: Line> {
     nodes: Nodes<L>,
@@ -57,6 +57,16 @@ impl<L: Line> Model for LiveNet<L> {
     ghost view = { λ n. n.nodes };
 
     ghost invariant = { λ n. IsLive L.service n.nodes × IsRoomy n.answer };
+}
+
+impl<L: Line> Deref for LiveNet<L> {
+    type Target = Nodes<L>;
+
+    fn deref(&self) -> &Nodes<L>
+        ensures { result.now ≡ self.now }
+    {
+        &self.nodes
+    }
 }
 
 impl<L: Line> LiveNet<L> {
@@ -121,13 +131,6 @@ impl<L: Line> LiveNet<L> {
         self.nodes.shows(node, terminal)
     }
 
-    /// Whether the node of this place is a host, and anything waits to be taken on the channel.
-    pub fn has_to_take(&self, node: usize, channel: u16) -> bool
-        ensures { result ≡ net_has_to_take node channel self.now }
-    {
-        self.nodes.has_to_take(node, channel)
-    }
-
     /// How many octets a message without Q may have now on the channel of the host of this place, at most 1,024: so many
     /// are not refused, if there are any. At any other node it is 0.
     pub fn room_to_say(&self, node: usize, channel: u16) -> usize
@@ -147,30 +150,6 @@ impl<L: Line> LiveNet<L> {
             → NetworkPromise (on g self.new) }
     {
         self.nodes.elapse(ticks);
-    }
-
-    /// The expiry of the first timer that runs with no tick left, of the first node that has one; at a switch on the first
-    /// of its lines that has one.
-    pub fn next_due(&self) -> Option<Event>
-        ensures { result ≡ net_due self.now }
-    {
-        self.nodes.next_due()
-    }
-
-    /// Whether it is certain that a delivery on the line in this direction finds no frame. A line that does not know says
-    /// no, and so does one that is not there.
-    pub fn finds_none(&self, line: usize, direction: Direction) -> bool
-        ensures { OnTrue result (FindsNoFrame L.service line direction self.now) }
-    {
-        self.nodes.finds_none(line, direction)
-    }
-
-    /// A number from this one on: it is certain that deliveries on the lines before it find no frame, either way.
-    pub fn next_with_frames(&self, from: usize) -> usize
-        ensures onward { from ≤ result }
-        ensures none { FindNoFrames L.service from result self.now }
-    {
-        self.nodes.next_with_frames(from)
     }
 
     /// Handles an event, lends the answer, which the network keeps until the next event, and keeps no record of it. A

@@ -1,17 +1,15 @@
 //! One process of a network in several.
-ghost use Rattle.std.specs.Prelude.{◌≡◌, ◌≢◌, ◌≤◌, true, false, Err, Some, None, IsOkUnless, IfOk, slice_get, vec_len};
-ghost use Rattle.std.specs.Bool.{OnTrue, OnFalse};
+ghost use Rattle.std.specs.Prelude.{◌≡◌, ◌≢◌, true, false, Err, Some, None, IsOkUnless, IfOk, slice_get, vec_len};
+ghost use Rattle.std.specs.Bool.{OnFalse};
 ghost use Rattle.call_records.specs.Register.{HasNoRecords};
 ghost use Rattle.net_config.specs.declared.fault.MakeFault.TheVariants as make_fault_is;
 ghost use Rattle.net_config.specs.Served.{is_served};
 ghost use Rattle.net_events.specs.Network.{all_elapsed};
 ghost use Rattle.net_events.specs.declared.event.StepFault.TheVariants as step_fault_is;
 ghost use Rattle.net_nodes.specs.Carrying.{HandedOn, PutAt};
-ghost use Rattle.net_nodes.specs.Due.{net_due_at};
 ghost use Rattle.net_nodes.specs.Faults.{step_fault};
-ghost use Rattle.net_nodes.specs.Happening.{IsRefusedSo, FindsNoFrame, FindNoFrames};
-ghost use Rattle.net_nodes.specs.Questions.{net_confirmed, net_shows, net_has_to_take, net_room_to_say, net_rests};
-ghost use Rattle.net_nodes.specs.Questions.{MaySay, PrintsNothing};
+ghost use Rattle.net_nodes.specs.Happening.{IsRefusedSo};
+ghost use Rattle.net_nodes.specs.Questions.{net_shows, net_room_to_say, MaySay, PrintsNothing};
 ghost use Rattle.node_events.specs.AnswerRoom.{IsWithinLimits};
 ghost use Rattle.line_sim.specs.Runs.{IsMadeBy};
 ghost use Rattle.live_laws.specs.Registers.{on};
@@ -25,6 +23,7 @@ use net_events::{Answer, Event, StepFault};
 use net_nodes::Nodes;
 use std::alloc::Global;
 use std::marker::Model;
+use std::ops::Deref;
 
 /// One process of several that run a network together. It has the whole network, as each of the others, and lets events
 /// come to its own nodes alone. On a line to a node of another process, frames that wait are carried off, and frames of
@@ -32,6 +31,9 @@ use std::marker::Model;
 ///
 /// What happens in it is exact, and alone it promises nothing of calls. If its lines are faithful, all processes
 /// together are one network, whose promise holds at each step.
+///
+/// What asks about the nodes, without a change, is a call of [`Nodes`]. It answers of the copies of other processes'
+/// nodes too. They have timers that are not to expire here, so ask for what is due node by node (`next_due_at`).
 #[derive(Drop)]
 pub struct LivePart<L: Line> {
     nodes: Nodes<L>,
@@ -56,6 +58,16 @@ impl<L: Line> Model for LivePart<L> {
     ghost view = { λ n. n.nodes };
 
     ghost invariant = { λ n. IsLive (blind L.service) n.nodes × IsRoomy n.answer };
+}
+
+impl<L: Line> Deref for LivePart<L> {
+    type Target = Nodes<L>;
+
+    fn deref(&self) -> &Nodes<L>
+        ensures { result.now ≡ self.now }
+    {
+        &self.nodes
+    }
 }
 
 impl<L: Line> LivePart<L> {
@@ -91,46 +103,6 @@ impl<L: Line> LivePart<L> {
         self.nodes.elapse(ticks);
     }
 
-    /// The expiry that is due first at the node of this place, which is to be one of its own. The copies of other
-    /// processes' nodes have timers too, which are not to expire here.
-    pub fn next_due_at(&self, node: usize) -> Option<Event>
-        ensures { result ≡ net_due_at node self.now }
-    {
-        self.nodes.next_due_at(node)
-    }
-
-    /// Whether it is certain that a delivery on the line in this direction finds no frame, as far as frames have come
-    /// to this process.
-    pub fn finds_none(&self, line: usize, direction: Direction) -> bool
-        ensures { OnTrue result (FindsNoFrame L.service line direction self.now) }
-    {
-        self.nodes.finds_none(line, direction)
-    }
-
-    /// A number from this one on: it is certain that deliveries on the lines before it find no frame here.
-    pub fn next_with_frames(&self, from: usize) -> usize
-        ensures onward { from ≤ result }
-        ensures none { FindNoFrames L.service from result self.now }
-    {
-        self.nodes.next_with_frames(from)
-    }
-
-    /// Whether nothing is in flight, unacknowledged, owed or gathered, and nothing waits to be sent, passed on or taken, at
-    /// the copies of other processes' nodes too.
-    pub fn at_rest(&self) -> bool
-        ensures { result ≡ net_rests self.now }
-    {
-        self.nodes.is_at_rest()
-    }
-
-    /// Whether the host of this place, which is to be one of its own, has a call in data transfer on the channel in
-    /// which each packet with D = 1 since the last reset was covered (X.25 4.3.3).
-    pub fn confirmed(&self, node: usize, channel: u16) -> bool
-        ensures { result ≡ net_confirmed node channel self.now }
-    {
-        self.nodes.confirmed(node, channel)
-    }
-
     /// Whether the node of this place, which is to be one of its own, is a PAD, and the terminal has anything to show. If
     /// not, to print there shows nothing and takes nothing.
     pub fn shows(&self, node: usize, terminal: u16) -> bool
@@ -138,14 +110,6 @@ impl<L: Line> LivePart<L> {
         ensures nothing { result ≡ false → PrintsNothing node terminal self.now }
     {
         self.nodes.shows(node, terminal)
-    }
-
-    /// Whether the node of this place, which is to be one of its own, is a host, and anything waits to be taken on the
-    /// channel.
-    pub fn has_to_take(&self, node: usize, channel: u16) -> bool
-        ensures { result ≡ net_has_to_take node channel self.now }
-    {
-        self.nodes.has_to_take(node, channel)
     }
 
     /// How many octets a message without Q may have now on the channel of the host of this place, which is to be one of

@@ -24,6 +24,13 @@ use std::alloc::Global;
 use std::io::Write;
 use user_nodes::TerminalEvent;
 
+/// A delivery of the first frame in flight on a line.
+#[derive(Clone, Copy)]
+struct Delivery {
+    line: usize,
+    direction: Direction,
+}
+
 /// How many frames a `flow` delivers at most.
 const FLOW_LIMIT: u32 = 100_000;
 
@@ -192,8 +199,16 @@ impl Player<'_> {
             if line >= self.lines {
                 return Ok(still_left);
             }
-            still_left = self.deliver(net, line, Direction::FromDte, still_left, text, out)?;
-            still_left = self.deliver(net, line, Direction::FromDce, still_left, text, out)?;
+            let first = Delivery {
+                line,
+                direction: Direction::FromDte,
+            };
+            still_left = self.deliver(net, first, still_left, text, out)?;
+            let second = Delivery {
+                line,
+                direction: Direction::FromDce,
+            };
+            still_left = self.deliver(net, second, still_left, text, out)?;
             passed = line + 1;
         }
     }
@@ -202,22 +217,21 @@ impl Player<'_> {
     fn deliver<L: Line, W: Write>(
         &self,
         net: &mut Net<L>,
-        line: usize,
-        direction: Direction,
+        delivery: Delivery,
         left: u32,
         text: &mut Vec<u8>,
         out: &mut W,
     ) -> Result<u32, ProgFault>
-        ensures { TriesDelivery L.service self.now.names.now self.now.traces (Deliver line direction)
+        ensures { TriesDelivery L.service self.now.names.now self.now.traces (Deliver delivery.line delivery.direction)
             (record { left = left; net = net.old }) (W.contents out.old) (W.contents out.new) result net.new }
     {
         if left == 0 {
             return Ok(0);
         }
-        if net.finds_none(line, direction) {
+        if net.finds_none(delivery.line, delivery.direction) {
             return Ok(left);
         }
-        self.deliver_first(net, line, direction, left, text, out)
+        self.deliver_first(net, delivery, left, text, out)
     }
 
     /// Delivers the first frame, if there is one, where one may still be delivered.
@@ -225,18 +239,20 @@ impl Player<'_> {
     fn deliver_first<L: Line, W: Write>(
         &self,
         net: &mut Net<L>,
-        line: usize,
-        direction: Direction,
+        delivery: Delivery,
         left: u32,
         text: &mut Vec<u8>,
         out: &mut W,
     ) -> Result<u32, ProgFault>
         requires { 0 < left }
-        ensures { TriesDelivery L.service self.now.names.now self.now.traces (Deliver line direction)
+        ensures { TriesDelivery L.service self.now.names.now self.now.traces (Deliver delivery.line delivery.direction)
             (record { left = left; net = net.old }) (W.contents out.old) (W.contents out.new) result net.new }
     {
-        let delivery = Event::Deliver { line, direction };
-        if self.play_event(net, &delivery, text, out)? {
+        let event = Event::Deliver {
+            line: delivery.line,
+            direction: delivery.direction,
+        };
+        if self.play_event(net, &event, text, out)? {
             Ok(left - 1)
         } else {
             Ok(left)

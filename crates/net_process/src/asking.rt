@@ -1,13 +1,11 @@
 //! Questions to the nodes of a process. At a node of another process, and at one that has not started, there is nothing.
-ghost use Rattle.std.specs.Prelude.{◌≡◌, ◌≤◌, ◌&&◌, true, false, if◌then◌else◌};
-ghost use Rattle.std.specs.Bool.{OnTrue};
-ghost use Rattle.net_nodes.specs.Happening.{FindsNoFrame, FindNoFrames};
+ghost use Rattle.std.specs.Prelude.{◌≡◌, ◌&&◌, true, false, if◌then◌else◌};
 ghost use Rattle.net_nodes.specs.Questions.{net_confirmed, net_shows, net_has_to_take, net_room_to_say};
 ghost use Rattle.net_nodes.specs.Questions.{MaySay, PrintsNothing};
 ghost use Rattle.net_process.specs.Process.{runs, process_rests};
 
 use crate::process::Process;
-use line_sim::{Direction, Line};
+use line_sim::Line;
 
 impl<L: Line> Process<L> {
     /// Whether nothing is in flight, unacknowledged, owed or gathered, and nothing waits to be sent, passed on or taken.
@@ -15,7 +13,7 @@ impl<L: Line> Process<L> {
     pub fn at_rest(&self) -> bool
         ensures { result ≡ process_rests self.now }
     {
-        self.lines.is_empty() && self.part.at_rest()
+        self.lines.is_empty() && self.part.is_at_rest()
     }
 
     /// Whether the host of this place has a call in data transfer on the channel in which each packet with D = 1 since
@@ -53,20 +51,5 @@ impl<L: Line> Process<L> {
         } else {
             0
         }
-    }
-
-    /// Whether it is certain that a delivery on the line in this direction finds no frame here.
-    pub fn finds_none(&self, line: usize, direction: Direction) -> bool
-        ensures { OnTrue result (FindsNoFrame L.service line direction self.now.part) }
-    {
-        self.part.finds_none(line, direction)
-    }
-
-    /// A number from this one on: it is certain that deliveries on the lines before it find no frame here.
-    pub fn next_with_frames(&self, from: usize) -> usize
-        ensures onward { from ≤ result }
-        ensures none { FindNoFrames L.service from result self.now.part }
-    {
-        self.part.next_with_frames(from)
     }
 }

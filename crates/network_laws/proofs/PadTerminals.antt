@@ -51,9 +51,9 @@ count_ended p =
 count_at_port : (number : ℕ) (act : AtLine → AtLine) (p : PadState) → count (pad.at_port number act p) ≡ count p
 count_at_port number act p = by (slice_get p.ports number)
   where
-    by : (o : Option PortState) → count (option_map_or (λ found. pad.acted number p (act (record { port = found; line = p.line }))) o p) ≡ count p
+    by : (o : Option PortState) → count (option_map_or (λ found. pad.acted number p (act (pad.with_line number found p))) o p) ≡ count p
     by None = refl
-    by (Some q) = length-set p.ports number (act (record { port = q; line = p.line })).port
+    by (Some q) = length-set p.ports number (act (pad.with_line number q p)).port
 
 pub count_terminal_event : (number : ℕ) (act : AtLine → AtLine) (p : PadState) → count (pad.terminal_event number act p) ≡ count p
 count_terminal_event number act p =

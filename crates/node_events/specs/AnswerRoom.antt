@@ -1,5 +1,5 @@
 -- What room an answer has, and how much is in it.
-use Rattle.std.specs.Prelude.{◌≡◌, ◌≤◌, ℕ, length, Vec, vec_capacity}
+use Rattle.std.specs.Prelude.{◌≡◌, ◌≤◌, length, vec_capacity}
 use Rattle.user_nodes.specs.declared.note.TheConstants.{MOST_NOTES}
 use Rattle.net_events.specs.declared.answer.Answer.{Answer}
 

@@ -21,6 +21,7 @@ ghost use Rattle.node_events.specs.Users.{IsCalledBy, IsServed, terminal_fault};
 ghost use Rattle.node_events.specs.Users.{host_fault, user_fault};
 
 use crate::hosts::{MOST_TAKEN, ask_host};
+use crate::net_line::NetLine;
 use crate::room::make_room;
 use crate::send::put_frames;
 use crate::terminals::at_terminal;
@@ -275,29 +276,29 @@ fn call_user(
     }
 }
 
-/// Serves what a user does at a node, whose line has so many channels, and writes the answer. What is refused changes
-/// nothing.
+/// Serves what a user does at a node, and writes the answer. What is refused changes nothing.
 #[inline(always)]
 pub fn serve_user<L: Line>(
     node: &mut Node,
     at: Attachment,
-    channels: u8,
     event: &UserEvent<'_>,
-    line: &mut L,
+    net_line: &mut NetLine<L>,
     register: &mut Register,
     answer: &mut Answer,
 ) -> Result<(), StepFault>
     requires there { at.line < length register.old.lines.items }
     requires whole { IsWhole event.now }
     requires quiet { IsQuiet (node_of node.old) }
-    ensures served { IsServed L.service at (user_event_of event.now) (user_fault channels event.now (node_of node.old))
-        (record { node = node_of node.old; flights = L.flights line.old; register = register_of register.old })
+    ensures line { net_line.new ≡ record net_line.old { flights = net_line.new.flights } }
+    ensures served { IsServed L.service at (user_event_of event.now)
+        (user_fault net_line.old.channels event.now (node_of node.old))
+        (record { node = node_of node.old; flights = net_line.old.flights; register = register_of register.old })
         (result_and result (Ok answer.new))
-        (record { node = node_of node.new; flights = L.flights line.new; register = register_of register.new }) }
+        (record { node = node_of node.new; flights = net_line.new.flights; register = register_of register.new }) }
     ensures kept { IsRoomy answer.old → IsRoomy answer.new }
     ensures ready { IsRoomy answer.old → HasNoRecords (register_of register.old) → result ≢ Err OutOfMemory }
 {
-    call_user(node, at, channels, event, register, answer)?;
-    finish(node, at, line, &mut register.book, answer);
+    call_user(node, at, net_line.channels, event, register, answer)?;
+    finish(node, at, &mut net_line.line, &mut register.book, answer);
     Ok(())
 }

@@ -122,9 +122,9 @@ module _ (P : PacketEnd → Type 0) (asks : (e : PacketEnd) (channel : ℕ) (r :
       → P (pad.at_port number act p).line.end
   port_at number act p f h = by (slice_get p.ports number)
     where
-      by : (o : Option PortState) → P (option_map_or (λ found. pad.acted number p (act (record { port = found; line = p.line }))) o p).line.end
+      by : (o : Option PortState) → P (option_map_or (λ found. pad.acted number p (act (pad.with_line number found p))) o p).line.end
       by None = h
-      by (Some found) = f (record { port = found; line = p.line }) h
+      by (Some found) = f (pad.with_line number found p) h
 
   -- ---- a call that came in is answered
 

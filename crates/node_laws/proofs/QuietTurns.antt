@@ -2,7 +2,6 @@
 use Rattle.std.specs.Prelude.{◌≡◌, ℕ, Bool, true, false, cond, List, [], Option, Some, None, if◌then◌else◌}
 use Rattle.std.proofs.Common.{refl}
 use Rattle.link_timers.specs.declared.role.Role.{Role}
-use Rattle.link_timers.specs.declared.role.Role.TheVariants.{Dte}
 use Rattle.link_timers.specs.declared.timers.TimerId.{TimerId}
 use Rattle.link_timers.specs.declared.timers.TimerId.TheVariants.{Idle}
 use Rattle.lapb.specs.Machine.{Octets}
@@ -10,7 +9,7 @@ use Rattle.data_transfer.specs.Packets.{CallParts}
 use Rattle.data_transfer.specs.Traffic.{Taken}
 use Rattle.packet_channel.specs.Channel.{Request}
 use Rattle.packet_layer.specs.Layer.{front_on}
-use Rattle.packet_end.specs.PacketEnd.{PacketEnd, begun, received, runs_at, after_timer, relinked, restarted, finished, made}
+use Rattle.packet_end.specs.PacketEnd.{PacketEnd, begun, received, runs_at, after_timer, relinked, finished}
 use Rattle.packet_host.specs.Host as host
 use Rattle.packet_host.specs.Making as host_making
 use Rattle.packet_host.specs.declared.config.HostConfig.{HostConfig}
@@ -22,7 +21,7 @@ use Rattle.x25_pad.specs.Pad.{PadState}
 use Rattle.x25_pad.specs.Making as pad_making
 use Rattle.x25_pad.specs.declared.config.PadConfig.{PadConfig}
 use Rattle.call_records.specs.Book.{Book}
-use Rattle.user_nodes.specs.Node.{NodeState, Pad, Host, end_of, drained, node_elapsed}
+use Rattle.user_nodes.specs.Node.{NodeState, Pad, Host, drained, node_elapsed}
 use Rattle.user_nodes.specs.Turn.{Turn, unchanged, told}
 use Rattle.user_nodes.specs.Terminals.{after_terminal, at_terminal}
 use Rattle.user_nodes.specs.LineTurns.{hears, expires, relinks, restarts}

@@ -9,12 +9,3 @@ next_left f (x ∷ xs) (suc n) = next_left f xs n
 
 pub one_read : {A B : Type 0} (f : A → B) (xs : List A) (n : ℕ) → map f (drop (n + 1) xs) ≡ drop 1 (map f (drop n xs))
 one_read f xs n = let next : n + 1 ≡ suc n = omega arith in ap (λ k. map f (drop k xs)) next ∙ next_left f xs n
-
-next_dropped : {A : Type 0} (xs : List A) (n : ℕ) → drop (suc n) xs ≡ drop 1 (drop n xs)
-next_dropped [] zero = refl
-next_dropped [] (suc n) = refl
-next_dropped (x ∷ xs) zero = refl
-next_dropped (x ∷ xs) (suc n) = next_dropped xs n
-
-pub one_dropped : {A : Type 0} (xs : List A) (n : ℕ) → drop (n + 1) xs ≡ drop 1 (drop n xs)
-one_dropped xs n = let next : n + 1 ≡ suc n = omega arith in ap (λ k. drop k xs) next ∙ next_dropped xs n

@@ -1,5 +1,6 @@
 pub mod Notes
 pub mod NoteView
+pub mod LineView
 pub mod PadLine
 pub mod Ports
 pub mod PortView

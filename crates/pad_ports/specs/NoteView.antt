@@ -1,5 +1,5 @@
 -- Notes of a PAD, as the code has them.
-use Rattle.std.specs.Prelude.{ℕ, ◌≤◌, ◌∷◌, [], List, map, drop, length, vec_capacity, Option, Some, None}
+use Rattle.std.specs.Prelude.{◌≤◌, ◌∷◌, [], map, drop, length, vec_capacity, Option, Some, None}
 use Rattle.pad_editing.specs.Edited.Step.{key, idle}
 use Rattle.packet_channel.specs.NoteView.{note_of}
 use Rattle.pad_ports.specs.Notes as spec
@@ -9,7 +9,6 @@ use Rattle.pad_ports.specs.declared.note.ChannelNote.TheVariants as note
 use Rattle.pad_ports.specs.declared.note.TheConstants.{MOST_NOTES}
 use Rattle.pad_ports.specs.declared.note.PadNotes.TheInside.{Inside}
 use Rattle.pad_ports.specs.declared.note.PadNote.{PadNote}
-use Rattle.pad_ports.specs.declared.note.NotedAt.TheInside as places
 
 abbrev pub pad_note_of : ChannelNote → spec.ChannelNote
 pad_note_of (note.Told n) = spec.Told (note_of n)
@@ -23,27 +22,21 @@ pad_note_of (note.Sent channel user_data) = spec.Sent channel user_data
 pad_note_of (note.Interrupted channel octet) = spec.Interrupted channel (octet ∷ [])
 pad_note_of (note.Took channel taken) = spec.Took channel (taken_of taken)
 
-abbrev pub maybe_pad_note : Option ChannelNote → Option spec.ChannelNote
+abbrev pub named_note_of : PadNote → spec.PadNote
+named_note_of n = record { terminal = n.terminal; note = pad_note_of n.note }
+
+abbrev pub maybe_pad_note : Option PadNote → Option spec.PadNote
 maybe_pad_note None = None
-maybe_pad_note (Some n) = Some (pad_note_of n)
+maybe_pad_note (Some n) = Some (named_note_of n)
 
-abbrev pub maybe_terminal_note : Option PadNote → Option spec.PadNote
-maybe_terminal_note None = None
-maybe_terminal_note (Some n) = Some (record { terminal = n.terminal; note = pad_note_of n.note })
-
-abbrev pub notes_in : Inside → List spec.ChannelNote
-notes_in q = map pad_note_of (drop q.read q.notes.items)
+abbrev pub noted_in : Inside → spec.Noted
+noted_in q = record {
+  notes = map (λ n. pad_note_of n.note) (drop q.read q.notes.items);
+  terminals = map (λ n. n.terminal) (drop q.read q.notes.items);
+}
 
 -- it has its places, and no more was read than there are
 pub record IsNoteQueue (q : Inside) : Type 0 where
   pub places : MOST_NOTES ≤ vec_capacity q.notes
   pub read : q.read ≤ length q.notes.items
   pub few : length q.notes.items ≤ MOST_NOTES
-
-abbrev pub terminals_in : places.Inside → List (Option ℕ)
-terminals_in q = drop q.read q.terminals.items
-
-pub record IsTerminalQueue (q : places.Inside) : Type 0 where
-  pub places : MOST_NOTES ≤ vec_capacity q.terminals
-  pub read : q.read ≤ length q.terminals.items
-  pub few : length q.terminals.items ≤ MOST_NOTES

@@ -1,5 +1,5 @@
 -- The PAD's end of its line with its notes, and what a PAD asks of the calls there.
-use Rattle.std.specs.Prelude.{ℕ, Bool, true, false, ◌==◌, List, [], ◌∷◌, ◌++◌, Option, Some, None}
+use Rattle.std.specs.Prelude.{ℕ, Bool, true, false, ◌==◌, List, [], ◌∷◌, ◌++◌, map, Option, Some, None}
 use Rattle.std.specs.List.{flat_map}
 use Rattle.data_transfer.specs.Packets.{CallParts, Datum, Note}
 use Rattle.data_transfer.specs.Traffic.{Taken}
@@ -15,19 +15,33 @@ use Rattle.pad_ports.specs.Notes.{ChannelNote, all_told, unless_refused}
 use Rattle.pad_ports.specs.declared.call.PortNote.{PortNote}
 use Rattle.pad_ports.specs.declared.call.PortNote.TheVariants as learnt
 
--- the PAD's end of the line, and the notes of an event, in order
+-- the PAD's end of the line, and the notes of an event, in order. For each note, in the same order, `noted_at` has the
+-- terminal whose call it is of, if one has the call. `terminal` is the one at which something happens, if any
 pub record PadLine : Type 0 where
   pub end : PacketEnd
   pub notes : List ChannelNote
+  pub noted_at : List (Option ℕ)
+  pub terminal : Option ℕ
+
+-- what happens next happens at this terminal, or at none
+abbrev pub at_terminal : Option ℕ → PadLine → PadLine
+at_terminal terminal l = record l { terminal = terminal }
+
+-- notes of the terminal
+abbrev pub noting : List ChannelNote → PadLine → PadLine
+noting notes l = record l { notes = l.notes ++ notes; noted_at = l.noted_at ++ map (λ note. l.terminal) notes }
+
+-- nothing is noted yet
+abbrev pub silent_line : PacketEnd → PadLine
+silent_line e = record { end = e; notes = []; noted_at = []; terminal = None }
 
 -- ---- requests
 
 -- something is asked of a call, which is noted where it is not refused
 abbrev pub asked : (channel : ℕ) → Request → ChannelNote → PadLine → PadLine
-asked channel r note l = record {
-  end = end.asked l.end channel r;
-  notes = l.notes ++ unless_refused (request_refusal l.end.layer channel r) note;
-}
+asked channel r note l =
+    noting (unless_refused (request_refusal l.end.layer channel r) note)
+    (record l { end = end.asked l.end channel r })
 
 -- a message of one Data packet
 abbrev pub datum : (octets : List ℕ) → (qualified : Bool) → Datum
@@ -69,16 +83,15 @@ placed_note (Some channel) address = notes.Placed channel address ∷ []
 
 -- a call of an address is placed
 abbrev pub placed : (address user_data : List ℕ) → PadLine → PadLine
-placed address user_data l = record {
-  end = end.called l.end (call_parts address user_data);
-  notes = l.notes ++ placed_note (channel_given l.end.layer l.end.layer.phase) address;
-}
+placed address user_data l =
+    noting (placed_note (channel_given l.end.layer l.end.layer.phase) address)
+    (record l { end = end.called l.end (call_parts address user_data) })
 
 -- what waits first on a call is taken, if anything does
 abbrev pub taken : (channel : ℕ) → Option Taken → PadLine → PadLine
 taken channel None l = record l { end = end.asked l.end channel Request.Taking }
 taken channel (Some x) l =
-    record { end = end.asked l.end channel Request.Taking; notes = l.notes ++ notes.Took channel x ∷ [] }
+    noting (notes.Took channel x ∷ []) (record l { end = end.asked l.end channel Request.Taking })
 
 -- ---- what a terminal must know of its call
 
@@ -97,9 +110,13 @@ condition (Some channel) l = record {
 
 -- ---- what the packet layer tells
 
--- its notes are read, and are notes of the PAD
-abbrev pub gathered : PadLine → PadLine
-gathered l = record { end = record l.end { notes = [] }; notes = l.notes ++ all_told l.end.notes }
+-- its notes are read, and are notes of the PAD, each with its terminal
+abbrev pub gathered : (terminals : List (Option ℕ)) → PadLine → PadLine
+gathered terminals l = record l {
+  end = record l.end { notes = [] };
+  notes = l.notes ++ all_told l.end.notes;
+  noted_at = l.noted_at ++ terminals;
+}
 
 -- the last call that comes in among the notes; where none does, the one before
 abbrev pub last_incoming : Option ℕ → List Note → Option ℕ

@@ -106,7 +106,7 @@ block_sent (Some block) channel a = sends block false channel a
 
 abbrev pub edits : Step → Option (List ℕ) → (channel : ℕ) → AtLine → AtLine
 edits step block channel a =
-    block_sent block channel (record a { line = record a.line { notes = a.line.notes ++ Edited channel step ∷ [] } })
+    block_sent block channel (record a { line = line.noting (Edited channel step ∷ []) a.line })
 
 abbrev pub handles : InputAnswer → Step → AtLine → AtLine
 handles input.Dropped step a = a

@@ -10,6 +10,6 @@ mod taken;
 
 pub use call::PortNote;
 pub use line::PadLine;
-pub use note::{ChannelNote, EARLY_NOTES, MOST_NOTES, NotedAt, PadNote, PadNotes, TOLD_NOTES};
+pub use note::{ChannelNote, EARLY_NOTES, MOST_NOTES, PadNote, PadNotes, TOLD_NOTES};
 pub use port::{MOST_TEXT, Port};
 pub use taken::PadTaken;

@@ -1,5 +1,5 @@
 //! The PAD's end of its line with its notes, and what a PAD asks of the calls there.
-ghost use Rattle.std.specs.Prelude.{◌≡◌, ◌≤◌, ◌<◌, ◌+◌, Some, length, MatchResult};
+ghost use Rattle.std.specs.Prelude.{◌≡◌, ◌≤◌, ◌<◌, ◌+◌, [], ◌∷◌, Some, length, MatchResult};
 ghost use Rattle.packet_channel.specs.Channel.{Request as ask};
 ghost use Rattle.packet_end.specs.PacketEnd as end_spec;
 ghost use Rattle.packet_layer.specs.Layer as machine;
@@ -8,7 +8,7 @@ ghost use Rattle.pad_ports.specs.NoteView.{pad_note_of};
 ghost use Rattle.pad_ports.specs.PadLine as spec;
 ghost use Rattle.pad_ports.specs.TakenView.{maybe_taken};
 
-use crate::note::{ChannelNote, MOST_NOTES, PadNotes};
+use crate::note::{ChannelNote, MOST_NOTES, PadNote, PadNotes};
 use crate::taken::PadTaken;
 use arrayvec::ArrayVec;
 use packet_codec::{Address, CallData};
@@ -29,6 +29,8 @@ const PROTOCOL: [u8; 4] = [1, 0, 0, 0];
 pub struct PadLine {
     pub end: PacketEnd,
     pub notes: PadNotes,
+    /// The terminal at which something happens, if it happens at one. What a port notes then is of this terminal.
+    pub terminal: Option<u8>,
 }
 
 impl Model for PadLine {
@@ -37,12 +39,33 @@ impl Model for PadLine {
 
     ghost Value = { LineValue };
 
-    ghost view = { λ l. record { end = l.end; notes = l.notes } };
+    ghost use Rattle.pad_ports.specs.LineView.{line_of};
+
+    ghost view = { line_of };
 
     ghost invariant = { λ l. l.end.layer.flow.size ≡ 128 };
 }
 
 impl PadLine {
+    /// What happens next happens at this terminal, or at none.
+    pub fn at_terminal(&mut self, terminal: Option<u8>)
+        ensures { self.new ≡ spec.at_terminal terminal self.old }
+    {
+        self.terminal = terminal;
+    }
+
+    /// Notes what happens at the terminal.
+    #[inline(always)]
+    pub(crate) fn note(&mut self, note: ChannelNote)
+        requires { length self.old.notes < MOST_NOTES }
+        ensures { self.new ≡ spec.noting (pad_note_of note ∷ []) self.old }
+    {
+        self.notes.add(PadNote {
+            terminal: self.terminal,
+            note,
+        });
+    }
+
     /// Asks something of a call, and notes it where it is not refused.
     fn ask(&mut self, channel: u8, request: &Request<'_>, note: ChannelNote)
         requires { length self.old.notes < MOST_NOTES }
@@ -51,7 +74,7 @@ impl PadLine {
         ensures told { self.new.end.notes ≡ self.old.end.notes }
     {
         if self.end.ask(channel, request).is_ok() {
-            self.notes.add(note);
+            self.note(note);
         }
     }
 
@@ -146,7 +169,7 @@ impl PadLine {
             facilities: &[],
             user_data: octets.as_slice(),
         })?;
-        self.notes.add(ChannelNote::Placed { channel, address });
+        self.note(ChannelNote::Placed { channel, address });
         Ok(channel)
     }
 
@@ -159,7 +182,7 @@ impl PadLine {
         ensures told { self.new.end.notes ≡ self.old.end.notes }
     {
         let taken = self.take_first(channel)?;
-        self.notes.add(ChannelNote::Took {
+        self.note(ChannelNote::Took {
             channel,
             taken: taken.copied(),
         });

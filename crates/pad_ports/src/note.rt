@@ -1,8 +1,8 @@
 //! What a PAD notes of an event, in order.
-ghost use Rattle.std.specs.Prelude.{◌≡◌, ◌<◌, ◌≤◌, ◌-◌, ◌++◌, [], ◌∷◌, IfOk, length, replicate, drop, slice_get};
+ghost use Rattle.std.specs.Prelude.{◌≡◌, ◌<◌, ◌≤◌, IfOk, length, drop};
 ghost use Rattle.std.specs.Prelude.{option_copied, vec_len, vec_capacity};
 ghost use Rattle.pad_ports.specs.NoteView.{pad_note_of, maybe_pad_note};
-ghost use Rattle.pad_ports.specs.Notes.{first_terminal};
+ghost use Rattle.pad_ports.specs.Notes.{first_noted, noted_of, nothing_noted, without_first};
 
 use crate::taken::{MOST_OCTETS, PadTaken};
 use packet_codec::Address;
@@ -83,20 +83,19 @@ pub struct PadNote {
 #[derive(Drop)]
 pub struct PadNotes {
     /// The notes of the event, with those that were read and not taken.
-    notes: Vec<ChannelNote>,
+    notes: Vec<PadNote>,
     /// How many of these were read.
     read: usize,
 }
 
 impl Model for PadNotes {
-    ghost use Rattle.std.specs.Prelude.{List};
-    ghost use Rattle.pad_ports.specs.Notes.{ChannelNote as note};
+    ghost use Rattle.pad_ports.specs.Notes.{Noted};
 
-    ghost Value = { List note };
+    ghost Value = { Noted };
 
-    ghost use Rattle.pad_ports.specs.NoteView.{notes_in, IsNoteQueue};
+    ghost use Rattle.pad_ports.specs.NoteView.{noted_in, IsNoteQueue};
 
-    ghost view = { notes_in };
+    ghost view = { noted_in };
 
     ghost invariant = { IsNoteQueue };
 }
@@ -104,7 +103,7 @@ impl Model for PadNotes {
 impl PadNotes {
     /// No notes. `AllocError` comes for want of memory.
     pub fn new(alloc: Global) -> Result<Self, AllocError>
-        ensures { IfOk result (λ q. q ≡ []) }
+        ensures { IfOk result (λ q. q ≡ nothing_noted) }
     {
         let notes = Vec::with_capacity(alloc, MOST_NOTES)?;
         Ok(PadNotes { notes, read: 0 })
@@ -112,7 +111,7 @@ impl PadNotes {
 
     /// Drops all notes.
     pub fn clear(&mut self)
-        ensures { self.new ≡ [] }
+        ensures { self.new ≡ nothing_noted }
     {
         self.notes.clear();
         self.read = 0;
@@ -120,7 +119,8 @@ impl PadNotes {
 
     /// How many notes there are.
     pub fn len(&self) -> usize
-        ensures count { result ≡ length self.now }
+        ensures count { result ≡ length self.now.notes }
+        ensures named { result ≡ length self.now.terminals }
         ensures most { result ≤ MOST_NOTES }
     {
         self.notes.len() - self.read
@@ -128,9 +128,9 @@ impl PadNotes {
 
     /// Adds a note.
     #[inline(always)]
-    pub fn add(&mut self, note: ChannelNote)
-        requires { length self.old < MOST_NOTES }
-        ensures { self.new ≡ self.old ++ pad_note_of note ∷ [] }
+    pub fn add(&mut self, note: PadNote)
+        requires { length self.old.notes < MOST_NOTES }
+        ensures { self.new ≡ noted_of note.terminal (pad_note_of note.note) self.old }
     {
         if self.read > 0 {
             drop_front(&mut self.notes, self.read);
@@ -140,15 +140,15 @@ impl PadNotes {
     }
 
     /// The first note, if there is one.
-    pub fn first(&self) -> Option<&ChannelNote>
-        ensures { maybe_pad_note (option_copied result) ≡ slice_get self.now 0 }
+    pub fn first(&self) -> Option<&PadNote>
+        ensures { maybe_pad_note (option_copied result) ≡ first_noted self.now.terminals self.now.notes }
     {
         self.notes.get(self.read)
     }
 
     /// Drops the first note, if there is one.
     pub fn drop_first(&mut self)
-        ensures { self.new ≡ drop 1 self.old }
+        ensures { self.new ≡ without_first self.old }
     {
         if self.read < self.notes.len() {
             self.read += 1;
@@ -156,9 +156,9 @@ impl PadNotes {
     }
 
     /// Takes the first note, if there is one.
-    pub fn take(&mut self) -> Option<ChannelNote>
-        ensures value { maybe_pad_note result ≡ slice_get self.old 0 }
-        ensures rest { self.new ≡ drop 1 self.old }
+    pub fn take(&mut self) -> Option<PadNote>
+        ensures value { maybe_pad_note result ≡ first_noted self.old.terminals self.old.notes }
+        ensures rest { self.new ≡ without_first self.old }
     {
         if self.read == self.notes.len() {
             return None;
@@ -167,95 +167,9 @@ impl PadNotes {
     }
 }
 
-/// The terminals of the notes of an event that are not yet read, in order.
-#[derive(Drop)]
-pub struct NotedAt {
-    /// The terminals of the notes of the event, with those that were read.
-    terminals: Vec<Option<u8>>,
-    /// How many of these were read.
-    read: usize,
-}
-
-impl Model for NotedAt {
-    ghost use Rattle.std.specs.Prelude.{ℕ, List, Option};
-
-    ghost Value = { List (Option ℕ) };
-
-    ghost use Rattle.pad_ports.specs.NoteView.{terminals_in, IsTerminalQueue};
-
-    ghost view = { terminals_in };
-
-    ghost invariant = { IsTerminalQueue };
-}
-
-impl NotedAt {
-    /// No terminals. `AllocError` comes for want of memory.
-    pub fn new(alloc: Global) -> Result<Self, AllocError>
-        ensures { IfOk result (λ q. q ≡ []) }
-    {
-        let terminals = Vec::with_capacity(alloc, MOST_NOTES)?;
-        Ok(NotedAt { terminals, read: 0 })
-    }
-
-    /// Drops all terminals.
-    pub fn clear(&mut self)
-        ensures { self.new ≡ [] }
-    {
-        self.terminals.clear();
-        self.read = 0;
-    }
-
-    /// Adds the terminal of one more note.
-    #[inline(always)]
-    pub fn add(&mut self, terminal: Option<u8>)
-        requires { length self.old < MOST_NOTES }
-        ensures { self.new ≡ self.old ++ terminal ∷ [] }
-    {
-        if self.read > 0 {
-            drop_front(&mut self.terminals, self.read);
-            self.read = 0;
-        }
-        let _ = self.terminals.push(terminal);
-    }
-
-    /// Adds this terminal for each further note, up to so many.
-    #[tactic(auto, using(crate::proofs::Naming::one_more))]
-    pub fn fill(&mut self, terminal: Option<u8>, notes: usize)
-        requires more { length self.old ≤ notes }
-        requires room { notes ≤ MOST_NOTES }
-        ensures { self.new ≡ self.old ++ replicate (notes - length self.old) terminal }
-    {
-        for _ in self.terminals.len() - self.read..notes {
-            self.add(terminal);
-        }
-    }
-
-    /// The first terminal, if there is one.
-    pub fn first(&self) -> Option<u8>
-        ensures { result ≡ first_terminal self.now }
-    {
-        match self.terminals.get(self.read) {
-            Some(terminal) => *terminal,
-            None => None,
-        }
-    }
-
-    /// Takes the first terminal, if there is one.
-    pub fn take(&mut self) -> Option<u8>
-        ensures value { result ≡ first_terminal self.old }
-        ensures rest { self.new ≡ drop 1 self.old }
-    {
-        let terminal = self.first();
-        if self.read < self.terminals.len() {
-            self.read += 1;
-        }
-        terminal
-    }
-}
-
-/// Drops so many entries at the front of a list.
+/// Drops so many notes at the front of a list.
 #[inline(never)]
-fn drop_front<T: Drop>(list: &mut Vec<T>, count: usize)
+fn drop_front(list: &mut Vec<PadNote>, count: usize)
     requires { count ≤ vec_len list.old }
     ensures items { list.new.items ≡ drop count list.old.items }
     ensures capacity { vec_capacity list.new ≡ vec_capacity list.old }

@@ -15,6 +15,7 @@ use Rattle.packet_end.specs.PacketEnd as end
 use Rattle.packet_end.specs.declared.params.EndParams.{EndParams}
 use Rattle.pad_ports.specs.Ports.{PortState, new_port}
 use Rattle.pad_ports.specs.Ports as port
+use Rattle.pad_ports.specs.PadLine.{silent_line}
 use Rattle.x25_pad.specs.Pad as pad
 use Rattle.x25_pad.specs.Pad.{PadState}
 use Rattle.x25_pad.specs.Making as pad_making
@@ -77,9 +78,8 @@ port_forgets params x initial = ap (λ (values : List ℕ). new_port values None
 
 pad_forgets : (c : PadConfig) (p : PadState) → c.line.standing ≡ false → 1 ≤ c.terminals → HasTerminals c p → pad.restarted p ≡ pad_making.made c
 pad_forgets c p standing least has = λ i. record {
-  line = record { end = ends_forget Dte c.line p.line.end standing has.end i; notes = [] };
+  line = silent_line (ends_forget Dte c.line p.line.end standing has.end i);
   ports = ports i;
-  noted_at = [];
 }
   where
     none_stands : None ≡ pad_making.standing_channel c

@@ -1,9 +1,8 @@
 -- No frame is among octets that signs alone make.
-use Rattle.std.proofs.Common.{◌≡◌, ◌<◌, ◌+◌, ◌*◌, ◌/◌, ◌%◌, ℕ, List, [], ◌∷◌, ◌++◌, true, false, length, refl, sym, ◌∙◌, arith}
+use Rattle.std.proofs.Common.{◌≡◌, ◌<◌, ◌/◌, ◌%◌, ℕ, List, [], ◌∷◌, ◌++◌, true, length, refl, sym, ◌∙◌, arith}
 use Rattle.std.proofs.lemmas.Bool.Decides.{nat_tests}
 use Rattle.std.proofs.lemmas.List.{append_cancel_left}
 use Rattle.line_carriers.specs.declared.sign.Sign.{Sign}
-use Rattle.line_carriers.specs.declared.carrier.Carrier.{Carrier}
 use Rattle.line_carriers.specs.declared.carrier.Connection.{Connection}
 use Rattle.line_carriers.specs.declared.hello.Hello.{Hello}
 use Rattle.line_carriers.specs.Wire.{code, is_frame}

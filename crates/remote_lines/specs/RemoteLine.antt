@@ -1,6 +1,5 @@
 -- A line whose other end is in another process.
 use Rattle.std.specs.Prelude.{ℕ, Bool, true, false, not, ◌||◌, ◌-◌, ◌*◌, ◌==◌, List, Option, Some, None, Result, Ok, Err, if◌then◌else◌}
-use Rattle.link_timers.specs.declared.role.Role.{Role}
 use Rattle.line_carriers.specs.declared.fault.CarrierFault.{CarrierFault}
 use Rattle.line_carriers.specs.declared.hello.Hello.{Hello}
 use Rattle.line_carriers.specs.declared.carrier.Expiry.{Expiry}

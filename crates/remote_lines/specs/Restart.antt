@@ -1,5 +1,5 @@
 -- What is on the way on a line between two processes while the node at one end has not started.
-use Rattle.std.specs.Prelude.{◌≡◌, Bool, true, false, ℕ, List, [], ◌∷◌, ◌++◌}
+use Rattle.std.specs.Prelude.{◌≡◌, true, false, ℕ, List, [], ◌∷◌, ◌++◌}
 use Rattle.line_carriers.specs.declared.carrier.Carrier.{Carrier}
 use Rattle.line_carriers.specs.declared.carrier.Connection.{Connection}
 use Rattle.line_carriers.specs.declared.hello.Hello.{Hello}

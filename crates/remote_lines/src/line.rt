@@ -1,8 +1,8 @@
 //! A line whose other end is in another process.
-ghost use Rattle.std.specs.Prelude.{◌≡◌, [], ◌++◌, length, take, drop, false, IfOk};
+ghost use Rattle.std.specs.Prelude.{◌≡◌, ◌++◌, length, take, drop, false, IfOk};
 ghost use Rattle.std.specs.Bool.{OnTrue, OnFalse};
 ghost use Rattle.std.specs.List.{list_all};
-ghost use Rattle.line_carriers.specs.Carrier.{is_open, meets, takes_octets, with_octets, takes_frame, after_next};
+ghost use Rattle.line_carriers.specs.Carrier.{is_open, takes_octets, with_octets, takes_frame, after_next};
 ghost use Rattle.line_carriers.specs.Wire.{frame_form};
 ghost use Rattle.remote_lines.specs.RemoteLine.{
   new_line,
@@ -21,9 +21,10 @@ ghost use Rattle.remote_lines.specs.RemoteLine.{
 
 use crate::order::{Ending, LineOrder};
 use frame_codec::FrameBuf;
-use line_carriers::{Carrier, CarrierFault, Expiry, Heard, Hello};
+use line_carriers::{Carrier, Expiry, Heard, Hello};
 use link_timers::Role;
 use std::alloc::{AllocError, Global};
+use std::ops::Deref;
 
 /// An end of a line: the number of the line in the network file, from 0, the role of the end, and the place of the node
 /// there.
@@ -62,7 +63,7 @@ pub enum Reading {
 ///
 /// The line is closed until both ends have opened it over the connection that stands: no frame is sent, and each that
 /// comes is lost. The node here starts when the partner of each of its lines is ready, or did not answer for twice the
-/// time of silence.
+/// time of silence. What asks about the connection, without a change, is a call of [`Carrier`].
 #[derive(Drop)]
 pub struct RemoteLine {
     end: LineEnd,
@@ -75,6 +76,16 @@ pub struct RemoteLine {
     ending: Option<Ending>,
     /// Whether the log has it that the line is open.
     told_open: bool,
+}
+
+impl Deref for RemoteLine {
+    type Target = Carrier;
+
+    fn deref(&self) -> &Carrier
+        ensures { result.now ≡ self.now.carrier }
+    {
+        &self.carrier
+    }
 }
 
 impl RemoteLine {
@@ -125,21 +136,6 @@ impl RemoteLine {
         }
     }
 
-    /// Whether the line is open: both ends have opened it over the connection that stands.
-    pub fn is_open(&self) -> bool
-        ensures { result ≡ is_open self.now.carrier }
-    {
-        self.carrier.is_open()
-    }
-
-    /// What the first octets over a connection say, before it replaces the one that stands: the number of the partner's
-    /// start, or the first thing that differs from the hello of a partner. Fewer than 48 octets are none.
-    pub fn meets(&self, octets: &[u8]) -> Result<u64, CarrierFault>
-        ensures { result ≡ meets self.now.carrier octets.now }
-    {
-        self.carrier.meets(octets)
-    }
-
     /// A new connection to the partner stands, and replaces the old one: what that one had is dropped, and there is no
     /// order to close it.
     pub fn connected(&mut self)
@@ -164,14 +160,6 @@ impl RemoteLine {
         ensures after { self.new ≡ record self.old { carrier = with_octets self.old.carrier (take result octets.now) } }
     {
         self.carrier.octets(octets)
-    }
-
-    /// Octets that wait to be written to the connection, from the first on: some if there are any, and not always all.
-    pub fn waiting(&self) -> &[u8]
-        ensures front { take (length result.now) self.now.carrier.output ≡ result.now }
-        ensures some { length result.now ≡ 0 → self.now.carrier.output ≡ [] }
-    {
-        self.carrier.waiting()
     }
 
     /// Drops the first `count` octets that wait, which were written; all, if there are fewer.

@@ -99,13 +99,6 @@ impl BridgePort {
         })
     }
 
-    /// Whether it has neither a call nor a connection.
-    fn is_free(&self) -> bool
-        ensures { result ≡ is_free_port self.now }
-    {
-        self.bridge.is_free()
-    }
-
     /// Whether it has the call of this channel.
     fn is_at(&self, at: HostChannel) -> bool
         ensures { result ≡ has_channel at self.now }
@@ -407,7 +400,7 @@ impl Bridges {
     fn first_free(&self) -> Option<usize>
         ensures { result ≡ position is_free_port self.now.ports.items }
     {
-        self.ports.iter().position(|port| port.is_free())
+        self.ports.iter().position(|port| port.bridge.is_free())
     }
 
     /// What is at the far end of a call from or to this address.

@@ -88,7 +88,7 @@ impl<L: Line> Exchange<L> {
     pub(crate) fn type_next(&mut self, at: Place, terminal: &mut Terminal) -> bool
         ensures { Serves L.service at (WishesKeys at) result self.old.net self.new.net terminal.old terminal.new }
     {
-        let Some(key) = terminal.next_key() else {
+        let Some(key) = terminal.port.next_key() else {
             return false;
         };
         if self.happen(&at_terminal(at, key_event(key))) {

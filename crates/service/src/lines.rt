@@ -1,18 +1,18 @@
 //! Lines to other processes.
-ghost use Rattle.std.specs.Prelude.{◌≡◌, ◌≤◌, true, List, [], length, take};
+ghost use Rattle.std.specs.Prelude.{◌≡◌, true, List, length, take};
 ghost use Rattle.std.specs.Bool.{OnTrue, OnFalse};
-ghost use Rattle.net_process.specs.Process.{is_set, may_start, runs};
-ghost use Rattle.net_process.specs.Remote.{lost, made, meets_at, line_at, order_at, after_order_at, output_at, takes, with_came, with_written};
+ghost use Rattle.net_process.specs.Process.{may_start};
+ghost use Rattle.net_process.specs.Remote.{lost, made, order_at, after_order_at, takes, with_came, with_written};
 ghost use Rattle.service.specs.declared.place.Place.{Place};
 ghost use Rattle.service.specs.Lines.{ServesLines, Starts, StartsOne};
 
 use crate::absent::leave_absent;
 use crate::exchange::Exchange;
 use crate::service::Service;
-use line_carriers::CarrierFault;
 use line_sim::{Direction, Line};
 use link_timers::Role;
-use remote_lines::{LineEnd, LineOrder, LineState, Reading};
+use net_process::Process;
+use remote_lines::{LineOrder, Reading};
 
 impl<L: Line> Service<L> {
     /// Does what lines to other processes want: a node starts if its lines let it, a link is given up if its line had no
@@ -46,40 +46,11 @@ impl<L: Line> Service<L> {
         true
     }
 
-    /// Whether the node of this place is of this process.
-    pub fn owns(&self, node: usize) -> bool
-        ensures { result ≡ is_set self.now.exchange.net.own node }
+    /// The process of the network: which nodes it has, and how far its lines to other processes are.
+    pub fn net(&self) -> &Process<L>
+        ensures { result.now ≡ self.now.exchange.net }
     {
-        self.exchange.net.owns(node)
-    }
-
-    /// Whether the node of this place is of this process and has started.
-    pub fn runs(&self, node: usize) -> bool
-        ensures { result ≡ runs self.now.exchange.net node }
-    {
-        self.exchange.net.runs(node)
-    }
-
-    /// How many lines to other processes there are.
-    pub fn remote_lines(&self) -> usize
-        ensures { result ≡ length self.now.exchange.net.lines }
-    {
-        self.exchange.net.remote_lines()
-    }
-
-    /// The end here of a line to another process, and how far the line is.
-    pub fn remote_line(&self, place: usize) -> Option<(LineEnd, LineState)>
-        ensures { result ≡ line_at place self.now.exchange.net }
-    {
-        self.exchange.net.remote_line(place)
-    }
-
-    /// What the first octets over a connection say, before it replaces the one of a line: the number of the partner's
-    /// start, or the first thing that differs from the hello of a partner. None if there is no such line.
-    pub fn line_meets(&self, place: usize, octets: &[u8]) -> Option<Result<u64, CarrierFault>>
-        ensures { result ≡ meets_at place self.now.exchange.net octets.now }
-    {
-        self.exchange.net.line_meets(place, octets)
+        &self.exchange.net
     }
 
     /// A new connection of a line stands, and replaces the old one.
@@ -106,15 +77,6 @@ impl<L: Line> Service<L> {
         ensures terminals { self.new.terminals ≡ self.old.terminals }
     {
         self.exchange.net.line_came(place, octets)
-    }
-
-    /// Octets that wait to be written to the connection of a line, from the first on: some if there are any, and not
-    /// always all.
-    pub fn line_waiting(&self, place: usize) -> &[u8]
-        ensures front { take (length result.now) (output_at place self.now.exchange.net) ≡ result.now }
-        ensures some { length result.now ≡ 0 → output_at place self.now.exchange.net ≡ [] }
-    {
-        self.exchange.net.line_waiting(place)
     }
 
     /// The first `count` octets that wait for the connection of a line were written.

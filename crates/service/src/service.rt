@@ -1,5 +1,5 @@
 //! A network with terminals for clients and built-in services.
-ghost use Rattle.std.specs.Prelude.{◌≡◌, ◌≤◌, ◌+◌, ◌-◌, true, length, min, option_map, take, slice_get, None, Some, IfOk, IfSome, IfNone};
+ghost use Rattle.std.specs.Prelude.{◌≡◌, ◌≤◌, ◌+◌, ◌-◌, true, length, min, take, slice_get, None, Some, IfOk, IfSome, IfNone};
 ghost use Rattle.net_process.specs.Carrying.{elapsed as process_elapsed};
 ghost use Rattle.service.specs.AllBridges.{AreOnOwnChannels};
 ghost use Rattle.service.specs.Bridging.{are_free};
@@ -192,16 +192,6 @@ impl<L: Line> Service<L> {
         }
     }
 
-    /// The connection could not be had that was ordered for this port.
-    pub fn failed(&mut self, port: usize)
-        ensures port { self.new.terminals.items ≡ changed_at port left self.old.terminals.items }
-        ensures bridge { self.new.bridges.ports.items ≡ bridge_changed_at port (with_phases bridge_phase.broken)
-            self.old.terminals.items self.old.bridges.ports.items }
-        ensures network { self.new.exchange.net ≡ self.old.exchange.net }
-    {
-        self.lost(port);
-    }
-
     fn first_free(&self, table: usize) -> Option<usize>
         ensures { result ≡ position (is_free_in table) self.now.terminals.items }
     {
@@ -241,7 +231,7 @@ impl<L: Line> Service<L> {
         }
     }
 
-    /// The connection of a port is lost.
+    /// The connection of a port is lost, or could not be had.
     pub fn lost(&mut self, port: usize)
         ensures port { self.new.terminals.items ≡ changed_at port left self.old.terminals.items }
         ensures bridge { self.new.bridges.ports.items ≡ bridge_changed_at port (with_phases bridge_phase.broken)

@@ -1,10 +1,10 @@
 //! A terminal, and the client that has it.
-ghost use Rattle.std.specs.Prelude.{◌≡◌, ◌≤◌, ◌<◌, ◌||◌, true, false, not, length, take, slice_get, IfOk};
+ghost use Rattle.std.specs.Prelude.{◌≡◌, ◌≤◌, ◌<◌, ◌||◌, true, false, not, length, take, IfOk};
 ghost use Rattle.std.specs.Bool.{OnTrue, OnFalse};
 ghost use Rattle.service_ports.specs.Ports.{takes_octet};
 ghost use Rattle.service.specs.Terminals.{attached, dismissed, elapsed, ended, fresh, has_client, heard, is_free, is_free_in, is_free_phase, is_open, kept_alive, left, left_if_written, urgent_place, waited, without_key_at, without_keys, written, xon_place};
 
-use service_ports::{Key, Mode, Port, TelnetCommand};
+use service_ports::{Mode, Port, TelnetCommand};
 use std::alloc::{AllocError, Global};
 
 /// How long what waits may take to be written out to a client that is to go, in ticks.
@@ -270,13 +270,6 @@ impl Terminal {
     {
         self.silence = 0;
         let _ = self.port.show(text);
-    }
-
-    /// The key that is typed next.
-    pub(crate) fn next_key(&self) -> Option<Key>
-        ensures { result ≡ slice_get self.now.port.keys.items 0 }
-    {
-        self.port.next_key()
     }
 
     /// The first key was typed.

@@ -1,7 +1,7 @@
 -- The first note of a PAD is written and told before it is dropped.
 use Rattle.std.proofs.Common.{◌≡◌, ◌∙◌, ℕ, ◌+◌, ◌≤◌, List, [], ◌∷◌, ◌++◌, length, drop, slice_get, Option, Some, None, refl, ap, arith, append_assoc, length-append}
 use Rattle.pad_ports.specs.Notes as pad
-use Rattle.pad_ports.specs.Notes.{ChannelNote, first_terminal}
+use Rattle.pad_ports.specs.Notes.{ChannelNote, PadNote, first_terminal, first_noted}
 use Rattle.user_nodes.specs.declared.note.CallUser.TheVariants.{Terminal}
 use Rattle.user_nodes.specs.declared.note.UserNote.{UserNote}
 use Rattle.user_nodes.specs.Notes.{told_by_pad, at_pad, user_notes}
@@ -12,9 +12,20 @@ pub pad_first_is : (notes : List ChannelNote) (note : ChannelNote) → Some note
 pad_first_is [] note is = absurd (cc)
 pad_first_is (first ∷ rest) note is = cc
 
-pub none_is : (notes : List ChannelNote) → None ≡ slice_get notes 0 → notes ≡ []
-none_is [] is = refl
-none_is (first ∷ rest) is = absurd (cc)
+pub none_is : (terminals : List (Option ℕ)) (notes : List ChannelNote) → None ≡ first_noted terminals notes → notes ≡ []
+none_is terminals [] is = refl
+none_is terminals (first ∷ rest) is = absurd (cc)
+
+some_is : {A : Type 0} {x y : A} → Some x ≡ Some y → x ≡ y
+some_is is = cc
+
+-- the first note and its terminal
+pub first_is : (terminals : List (Option ℕ)) (notes : List ChannelNote) (note : PadNote) → Some note ≡ first_noted terminals notes
+    → (Some note.note ≡ slice_get notes 0) × (note.terminal ≡ first_terminal terminals)
+first_is terminals [] note is = absurd (cc)
+first_is terminals (first ∷ rest) note is =
+    let same : note ≡ record { terminal = first_terminal terminals; note = first } = some_is is in
+    (ap (λ (n : PadNote). Some n.note) same, ap (λ (n : PadNote). n.terminal) same)
 
 -- there is one less then
 pub one_waits : (notes : List ChannelNote) (note : ChannelNote) → Some note ≡ slice_get notes 0 → length (drop 1 notes) + 1 ≡ length notes

@@ -19,8 +19,8 @@ use Rattle.user_nodes.specs.LineTurns.{expires}
 
 as_read : (p : PadState) → p.line.notes ≡ [] → records.without_notes p ≡ p
 as_read p none =
-    let terminals : drop (length p.line.notes) p.noted_at ≡ p.noted_at = ap (λ (notes : List ChannelNote). drop (length notes) p.noted_at) none in
-    λ i. record p { line = record p.line { notes = sym none i }; noted_at = terminals i }
+    let terminals : drop (length p.line.notes) p.line.noted_at ≡ p.line.noted_at = ap (λ (notes : List ChannelNote). drop (length notes) p.line.noted_at) none in
+    λ i. record p { line = record p.line { notes = sym none i; noted_at = terminals i } }
 
 pub pad_unchanged : (role : Role) (p : PadState) (b : Book) → p.line.notes ≡ [] → told role (Pad p) b ≡ unchanged (Pad p) b
 pad_unchanged role p b none =

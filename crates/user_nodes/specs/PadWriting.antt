@@ -29,4 +29,4 @@ writes_of notes = map write_of notes
 -- the PAD when all its notes were read, with their terminals
 abbrev pub without_notes : PadState → PadState
 without_notes p =
-    record p { line = record p.line { notes = [] }; noted_at = drop (length p.line.notes) p.noted_at }
+    record p { line = record p.line { notes = []; noted_at = drop (length p.line.notes) p.line.noted_at } }

@@ -22,6 +22,6 @@ abbrev pub told : Role → NodeState → Book → Turn
 told role (Pad p) b = record {
   node = without_notes (Pad p);
   book = all_written role (writes_of p.line.notes) b;
-  notes = at_pad p.noted_at p.line.notes;
+  notes = at_pad p.line.noted_at p.line.notes;
 }
 told role (Host e) b = record { node = without_notes (Host e); book = all_told role e.notes b; notes = at_host e.notes }

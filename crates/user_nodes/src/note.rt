@@ -13,7 +13,7 @@ use call_records::calling_of;
 use packet_codec::{Address, CallData, MAX_CALL_USER_DATA};
 use packet_layer::LayerNote;
 use std::marker::Model;
-use x25_pad::ChannelNote;
+use x25_pad::{ChannelNote, PadNote};
 
 /// The most notes of one event of a node: those of a PAD.
 pub const MOST_NOTES: usize = x25_pad::MOST_NOTES;
@@ -150,18 +150,13 @@ pub(crate) fn list_layer_note(
 }
 
 /// Lists what a terminal is told by a note of its PAD, if anything: neither what was typed nor what was sent or taken.
-pub(crate) fn list_pad_note(
-    node: usize,
-    terminal: Option<u8>,
-    note: &ChannelNote,
-    notes: &mut Vec<UserNote>,
-)
+pub(crate) fn list_pad_note(node: usize, note: &PadNote, notes: &mut Vec<UserNote>)
     requires { vec_len notes.old < vec_capacity notes.old }
-    ensures listed { notes.new.items ≡ notes.old.items ++ told_by_pad node terminal (pad_note_of note.now) }
+    ensures listed { notes.new.items ≡ notes.old.items ++ told_by_pad node note.now.terminal (pad_note_of note.now.note) }
     ensures capacity { vec_capacity notes.new ≡ vec_capacity notes.old }
 {
-    let user = CallUser::Terminal(terminal);
-    let (channel, kind) = match note {
+    let user = CallUser::Terminal(note.terminal);
+    let (channel, kind) = match &note.note {
         ChannelNote::Told(note) => return list_layer_note(node, user, note, notes),
         ChannelNote::Placed { channel, address } => (
             *channel,

@@ -29,12 +29,12 @@ pub fn write_pad_notes(pad: &mut Pad, at: Attachment, book: &mut Book, notes: &m
     requires capacity { length pad.old.line.notes ≤ vec_capacity notes.old }
     ensures pad { pad.new ≡ without_notes pad.old }
     ensures book { book.new.book ≡ all_written at.role (writes_of pad.old.line.notes) book.old.book }
-    ensures notes { notes.new.items ≡ user_notes at.node (at_pad pad.old.noted_at pad.old.line.notes) }
+    ensures notes { notes.new.items ≡ user_notes at.node (at_pad pad.old.line.noted_at pad.old.line.notes) }
     ensures kept { vec_capacity notes.new ≡ vec_capacity notes.old }
 {
     while let Some(note) = pad.first_note() {
-        write_pad_note(book, at.role, note);
-        list_pad_note(at.node, pad.first_terminal(), note, notes);
+        write_pad_note(book, at.role, &note.note);
+        list_pad_note(at.node, note, notes);
         pad.drop_note();
     }
 }

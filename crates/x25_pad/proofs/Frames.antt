@@ -115,9 +115,9 @@ next_same (Some call) (Some taken) p l = taking_same taken call (record { port =
 at_port_same : (number : ℕ) (act : AtLine → AtLine) → ((a : AtLine) → SameAt a (act a)) → (p : PadState) → SameFrames p.line.end (at_port number act p).line.end
 at_port_same number act same p = by (slice_get p.ports number)
   where
-    by : (o : Option PortState) → SameFrames p.line.end (option_map_or (λ found. acted number p (act (record { port = found; line = p.line }))) o p).line.end
+    by : (o : Option PortState) → SameFrames p.line.end (option_map_or (λ found. acted number p (act (pad.with_line number found p))) o p).line.end
     by None = refl
-    by (Some q) = same (record { port = q; line = p.line })
+    by (Some q) = same (pad.with_line number q p)
 
 -- ---- the end of an event
 

@@ -21,28 +21,37 @@ heard_first : (note : Note) (rest : List Note) (ports : List PortState) →
 unfolding all_heard
 heard_first note rest ports = sym (fold-append one_learnt ports (learnt_of note) (all_learnt rest))
 
+-- the first note is told, with its terminal
+abbrev one_told : PadState → Note → (rest : List Note) → PadState
+one_told p note rest = record {
+  line = record p.line {
+    end = record p.line.end { notes = rest };
+    notes = p.line.notes ++ Told note ∷ [];
+    noted_at = p.line.noted_at ++ holder (about note) p.ports ∷ [];
+  };
+  ports = all_heard (learnt_of note) p.ports;
+}
+
 told_cons : (p : PadState) (note : Note) (rest : List Note) →
-    told (record {
-      line = record { end = record p.line.end { notes = rest }; notes = p.line.notes ++ Told note ∷ [] };
-      ports = all_heard (learnt_of note) p.ports;
-      noted_at = p.noted_at ++ holder (about note) p.ports ∷ [];
-    })
-    ≡ told (record p { line = record p.line { end = record p.line.end { notes = note ∷ rest } } })
+    told (one_told p note rest) ≡ told (record p { line = record p.line { end = record p.line.end { notes = note ∷ rest } } })
 told_cons p note rest = λ i. record {
-  line = record {
+  line = record p.line {
     end = record p.line.end { notes = [] };
     notes = append_assoc {A = ChannelNote} p.line.notes (Told note ∷ []) (all_told rest) i;
+    noted_at = append_assoc {A = Option ℕ} p.line.noted_at (holder (about note) p.ports ∷ [])
+        (holders (all_heard (learnt_of note) p.ports) rest) i;
   };
   ports = heard_first note rest p.ports i;
-  noted_at = append_assoc {A = Option ℕ} p.noted_at (holder (about note) p.ports ∷ [])
-      (holders (all_heard (learnt_of note) p.ports) rest) i;
 }
 
 pub told_first : (p : PadState) (note : Note) → slice_get p.line.end.notes 0 ≡ Some note →
     told (record {
-      line = record { end = without_first_note p.line.end; notes = p.line.notes ++ Told note ∷ [] };
+      line = record p.line {
+        end = without_first_note p.line.end;
+        notes = p.line.notes ++ Told note ∷ [];
+        noted_at = p.line.noted_at ++ holder (about note) p.ports ∷ [];
+      };
       ports = all_heard (learnt_of note) p.ports;
-      noted_at = p.noted_at ++ holder (about note) p.ports ∷ [];
     })
     ≡ told p
 told_first p note is =
@@ -73,9 +82,12 @@ told_empty : (p : PadState) (notes : List Note) → length notes ≡ 0 →
     told (record p { line = record p.line { end = record p.line.end { notes = notes } } })
     ≡ record p { line = record p.line { end = record p.line.end { notes = notes } } }
 told_empty p [] none = λ i. record {
-  line = record { end = record p.line.end { notes = [] }; notes = append-nil p.line.notes i };
+  line = record p.line {
+    end = record p.line.end { notes = [] };
+    notes = append-nil p.line.notes i;
+    noted_at = append-nil p.line.noted_at i;
+  };
   ports = none_heard p.ports i;
-  noted_at = append-nil p.noted_at i;
 }
 told_empty p (note ∷ rest) none = absurd (omega (arith, none))
 

@@ -1,10 +1,11 @@
 -- How a PAD is made.
-use Rattle.std.specs.Prelude.{◌≡◌, ℕ, ◌-◌, ◌≤◌, if◌then◌else◌, [], ◌∷◌, replicate, Option, Some, None}
+use Rattle.std.specs.Prelude.{◌≡◌, ℕ, ◌-◌, ◌≤◌, if◌then◌else◌, ◌∷◌, replicate, Option, Some, None}
 use Rattle.link_timers.specs.declared.role.Role.TheVariants.{Dte}
 use Rattle.packet_end.specs.PacketEnd as end
 use Rattle.packet_end.specs.Params.{AreParams}
 use Rattle.packet_end.specs.declared.fault.EndFault.{EndFault}
 use Rattle.packet_end.specs.declared.fault.EndFault.TheVariants.{BadConfig, OutOfMemory}
+use Rattle.pad_ports.specs.PadLine.{silent_line}
 use Rattle.pad_ports.specs.Ports.{new_port}
 use Rattle.x25_pad.specs.Pad.{PadState}
 use Rattle.x25_pad.specs.declared.config.PadConfig.{PadConfig}
@@ -26,7 +27,6 @@ standing_channel c = if c.line.standing then Some 1 else None
 
 abbrev pub made : PadConfig → PadState
 made c = record {
-  line = record { end = end.made Dte c.line; notes = [] };
+  line = silent_line (end.made Dte c.line);
   ports = new_port c.params (standing_channel c) ∷ replicate (c.terminals - 1) (new_port c.params None);
-  noted_at = [];
 }

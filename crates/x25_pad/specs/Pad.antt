@@ -1,6 +1,6 @@
 -- A PAD at the DTE's end of a line, with its terminals at their ports: what each event makes of it.
-use Rattle.std.specs.Prelude.{◌≡◌, ℕ, ◌-◌, Bool, true, false, if◌then◌else◌, List, [], ◌∷◌, ◌++◌, map, fold, replicate}
-use Rattle.std.specs.Prelude.{length, slice_get, slice_set, position, drop, is_some, Option, Some, None}
+use Rattle.std.specs.Prelude.{ℕ, Bool, true, false, if◌then◌else◌, List, [], ◌∷◌, map, fold}
+use Rattle.std.specs.Prelude.{slice_get, slice_set, position, drop, is_some, Option, Some, None}
 use Rattle.std.specs.Option.{option_map_or}
 use Rattle.link_timers.specs.declared.timers.TimerId.{TimerId}
 use Rattle.link_timers.specs.declared.timers.TimerId.TheVariants.{Idle}
@@ -10,7 +10,7 @@ use Rattle.packet_end.specs.PacketEnd.{Octets, PacketEnd}
 use Rattle.packet_end.specs.PacketEnd as end
 use Rattle.pad_ports.specs.PadLine as line
 use Rattle.pad_ports.specs.PadLine.{gathered, last_incoming, learnt_of, all_learnt, about}
-use Rattle.pad_ports.specs.Notes.{ChannelNote, PadNote, first_terminal}
+use Rattle.pad_ports.specs.Notes.{PadNote, first_noted}
 use Rattle.pad_ports.specs.Ports as port
 use Rattle.pad_ports.specs.Ports.{PortState, AtLine}
 use Rattle.pad_ports.specs.declared.call.PortNote.{PortNote}
@@ -18,17 +18,10 @@ use Rattle.pad_ports.specs.PadLine.{PadLine}
 use Rattle.x25_pad.specs.declared.answer.PadAnswer.{PadAnswer}
 use Rattle.x25_pad.specs.declared.answer.PadAnswer.TheVariants as answer
 
--- its end of the line with its notes, its ports in the order of their terminals, and for each note, in the same order,
--- the terminal whose call it is of, if one has the call
+-- its end of the line with its notes, and its ports in the order of their terminals
 pub record PadState : Type 0 where
   pub line : PadLine
   pub ports : List PortState
-  pub noted_at : List (Option ℕ)
-
--- the notes that have no terminal yet are of this one, or of none
-abbrev pub named : (terminal : Option ℕ) → PadState → PadState
-named terminal p =
-    record p { noted_at = p.noted_at ++ replicate (length p.line.notes - length p.noted_at) terminal }
 
 -- ---- ports by number
 
@@ -36,14 +29,17 @@ abbrev pub changed_at : (number : ℕ) → (PortState → PortState) → List Po
 changed_at number change ports =
     option_map_or (λ p. slice_set ports number (change p)) (slice_get ports number) ports
 
+-- a terminal's port and the line, where what happens next happens at that terminal
+abbrev pub with_line : (number : ℕ) → PortState → PadState → AtLine
+with_line number found p = record { port = found; line = line.at_terminal (Some number) p.line }
+
 abbrev pub acted : (number : ℕ) → PadState → AtLine → PadState
-acted number p a =
-    named (Some number) (record p { line = a.line; ports = slice_set p.ports number a.port })
+acted number p a = record { line = a.line; ports = slice_set p.ports number a.port }
 
 -- something happens at a terminal, of which the notes are then
 abbrev pub at_port : (number : ℕ) → (AtLine → AtLine) → PadState → PadState
 at_port number act p =
-    option_map_or (λ found. acted number p (act (record { port = found; line = p.line }))) (slice_get p.ports number) p
+    option_map_or (λ found. acted number p (act (with_line number found p))) (slice_get p.ports number) p
 
 -- ---- what the packet layer tells
 
@@ -70,11 +66,11 @@ holders ports (note ∷ notes) = holder (about note) ports ∷ holders (all_hear
 -- a call that comes in is accepted for the first terminal that is present and has no call. If there is none it is
 -- cleared, and is no terminal's
 abbrev pub answered_at : Option ℕ → (channel : ℕ) → PadState → PadState
-answered_at None channel p = named None (record p { line = line.cleared channel p.line })
-answered_at (Some number) channel p = named (Some number) (record p {
-  line = line.accepted channel p.line;
+answered_at None channel p = record p { line = line.cleared channel (line.at_terminal None p.line) }
+answered_at (Some number) channel p = record {
+  line = line.accepted channel (line.at_terminal (Some number) p.line);
   ports = changed_at number (port.connects channel) p.ports;
-})
+}
 
 abbrev pub first_free : List PortState → Option ℕ
 first_free ports = position port.is_free ports
@@ -86,16 +82,15 @@ answered (Some channel) p = answered_at (first_free p.ports) channel p
 -- the terminals learn what became of their calls
 abbrev pub told : PadState → PadState
 told p = record {
-  line = gathered p.line;
+  line = gathered (holders p.ports p.line.end.notes) p.line;
   ports = all_heard (all_learnt p.line.end.notes) p.ports;
-  noted_at = p.noted_at ++ holders p.ports p.line.end.notes;
 }
 
 -- ---- events
 
 -- what was not taken of the last event is dropped
 abbrev pub begun : PadState → PadState
-begun p = record p { line = record { end = end.begun p.line.end; notes = [] }; noted_at = [] }
+begun p = record p { line = line.silent_line (end.begun p.line.end) }
 
 abbrev pub with_end : PacketEnd → PadState → PadState
 with_end e p = record p { line = record p.line { end = e } }
@@ -148,7 +143,7 @@ answer_of false = answer.Dropped
 -- of what happens at a terminal, and of an event there
 abbrev pub taken_at : (number : ℕ) → (AtLine → Bool) → PadState → Bool
 taken_at number taken p =
-    option_map_or (λ found. taken (record { port = found; line = p.line })) (slice_get p.ports number) false
+    option_map_or (λ found. taken (with_line number found p)) (slice_get p.ports number) false
 
 abbrev pub key_taken_now : (number octet : ℕ) → PadState → Bool
 key_taken_now number octet p = taken_at number (λ a. port.is_taken (port.key_input octet a).answer) p
@@ -169,14 +164,14 @@ idle_taken_now number p = taken_at number (λ a. port.is_taken (port.idle_input 
 
 abbrev pub print_taken_now : (number : ℕ) → PadState → Option TakenValue
 print_taken_now number p =
-    option_map_or (λ found. port.taken_of (record { port = found; line = p.line })) (slice_get p.ports number) None
+    option_map_or (λ found. port.taken_of (with_line number found p)) (slice_get p.ports number) None
 
 abbrev pub print_taken : (number : ℕ) → PadState → Option TakenValue
 print_taken number p = print_taken_now number (begun p)
 
 abbrev pub print_text_now : (number : ℕ) → PadState → List ℕ
 print_text_now number p =
-    option_map_or (λ found. port.printed (record { port = found; line = p.line })) (slice_get p.ports number) []
+    option_map_or (λ found. port.printed (with_line number found p)) (slice_get p.ports number) []
 
 abbrev pub print_text : (number : ℕ) → PadState → List ℕ
 print_text number p = print_text_now number (begun p)
@@ -220,23 +215,14 @@ due p = end.either_timer (end.due p.line.end) (idle_due (position (λ q. port.is
 -- the PAD restarts, without a call
 abbrev pub restarted : PadState → PadState
 restarted p = record {
-  line = record { end = end.restarted p.line.end; notes = [] };
+  line = line.silent_line (end.restarted p.line.end);
   ports = map port.restarted p.ports;
-  noted_at = [];
 }
-
-abbrev pub with_terminal : (terminal : Option ℕ) → Option ChannelNote → Option PadNote
-with_terminal terminal None = None
-with_terminal terminal (Some note) = Some (record { terminal = terminal; note = note })
 
 -- its first note, with the terminal
 abbrev pub first_note : PadState → Option PadNote
-first_note p = with_terminal (first_terminal p.noted_at) (slice_get p.line.notes 0)
+first_note p = first_noted p.line.noted_at p.line.notes
 
 abbrev pub without_first_note : PadState → PadState
 without_first_note p =
-    record p { line = record p.line { notes = drop 1 p.line.notes }; noted_at = drop 1 p.noted_at }
-
--- each note has its terminal, or has none
-abbrev pub IsEachNamed : PadState → Type 0
-IsEachNamed p = length p.noted_at ≡ length p.line.notes
+    record p { line = record p.line { notes = drop 1 p.line.notes; noted_at = drop 1 p.line.noted_at } }

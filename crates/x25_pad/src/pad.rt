@@ -1,9 +1,8 @@
 //! The PAD and its terminals.
-ghost use Rattle.std.specs.Prelude.{◌≡◌, ◌≤◌, ◌-◌, ◌∷◌, None, IfOk, MatchResult, length, replicate, slice_get};
+ghost use Rattle.std.specs.Prelude.{◌≡◌, ◌≤◌, ◌-◌, ◌∷◌, None, IfOk, MatchResult, length, replicate};
 ghost use Rattle.std.specs.Prelude.{option_copied};
 ghost use Rattle.pad_ports.specs.Ports.{new_port};
-ghost use Rattle.pad_ports.specs.Notes.{first_terminal};
-ghost use Rattle.pad_ports.specs.NoteView.{maybe_pad_note, maybe_terminal_note};
+ghost use Rattle.pad_ports.specs.NoteView.{maybe_pad_note};
 ghost use Rattle.x25_pad.specs.Pad as spec;
 ghost use Rattle.x25_pad.specs.Making.{made, IsConfig, MadeNot};
 
@@ -16,9 +15,10 @@ use data_transfer::DEFAULT_SIZE;
 use link_timers::Role;
 use number_set::NumberSet;
 use packet_end::{EndFault, PacketEnd};
-use pad_ports::{ChannelNote, MOST_NOTES, NotedAt, PadLine, PadNote, PadNotes, Port};
+use pad_ports::{MOST_NOTES, PadLine, PadNote, PadNotes, Port};
 use std::alloc::{AllocError, Global};
 use std::marker::Model;
+use std::ops::Deref;
 use x3_params::Params;
 
 /// The most terminals of a PAD.
@@ -30,13 +30,13 @@ const STANDING_CHANNEL: u8 = 1;
 /// A PAD at the DTE's end of a line, for up to 16 terminals.
 ///
 /// Each call that changes the PAD, but `elapse` and what takes, is one event. Its notes are then taken by `notes`, or
-/// read by `first_note` and `first_terminal` and dropped by `drop_note`, and its frames are taken by `out`. After the
-/// next event they are gone, a frame as if the line had lost it.
+/// read by `first_note` and dropped by `drop_note`, and its frames are taken by `out`. After the next event they are
+/// gone, a frame as if the line had lost it. What asks about its end of the line, without a change, is a call of
+/// [`PacketEnd`].
 #[derive(Drop)]
 pub struct Pad {
     line: PadLine,
     ports: Vec<Port>,
-    noted_at: NotedAt,
     /// The ports that something touched since they were settled, and those whose terminals still wait to go on. The end
     /// of an event leaves all others as they are.
     touched: NumberSet,
@@ -52,6 +52,16 @@ impl Model for Pad {
     ghost view = { pad_of };
 
     ghost invariant = { IsPad };
+}
+
+impl Deref for Pad {
+    type Target = PacketEnd;
+
+    fn deref(&self) -> &PacketEnd
+        ensures { result.now ≡ self.now.line.end }
+    {
+        &self.line.end
+    }
 }
 
 impl Pad {
@@ -79,14 +89,16 @@ impl Pad {
         };
         let ports = new_ports(alloc, config.params, standing, config.terminals)?;
         let notes = PadNotes::new(alloc)?;
-        let noted_at = NotedAt::new(alloc)?;
         let end = PacketEnd::new(alloc, Role::Dte, config.line)?;
-        let line = PadLine { end, notes };
+        let line = PadLine {
+            end,
+            notes,
+            terminal: None,
+        };
         let touched = NumberSet::first(ports.len());
         Ok(Pad {
             line,
             ports,
-            noted_at,
             touched,
         })
     }
@@ -101,32 +113,24 @@ impl Pad {
 
     /// Takes the next note of the event, if there is one, with the terminal whose call it is of, if one has it.
     pub fn notes(&mut self) -> Option<PadNote>
-        ensures note { maybe_terminal_note result ≡ spec.first_note self.old }
+        ensures note { maybe_pad_note result ≡ spec.first_note self.old }
         ensures pad { self.new ≡ spec.without_first_note self.old }
     {
-        let terminal = self.noted_at.take();
-        let note = self.line.notes.take()?;
-        Some(PadNote { terminal, note })
+        self.line.notes.take()
     }
 
-    /// The next note of the event, if there is one. It is not taken.
-    pub fn first_note(&self) -> Option<&ChannelNote>
-        ensures { maybe_pad_note (option_copied result) ≡ slice_get self.now.line.notes 0 }
+    /// The next note of the event, if there is one, with the terminal whose call it is of, if one has it. It is not
+    /// taken.
+    pub fn first_note(&self) -> Option<&PadNote>
+        ensures { maybe_pad_note (option_copied result) ≡ spec.first_note self.now }
     {
         self.line.notes.first()
-    }
-
-    /// The terminal whose call the next note is of, if one has it.
-    pub fn first_terminal(&self) -> Option<u8>
-        ensures { result ≡ first_terminal self.now.noted_at }
-    {
-        self.noted_at.first()
     }
 
     /// How many notes of the event are not yet read.
     pub fn waiting_notes(&self) -> usize
         ensures count { result ≡ length self.now.line.notes }
-        ensures named { spec.IsEachNamed self.now }
+        ensures named { result ≡ length self.now.line.noted_at }
         ensures most { result ≤ MOST_NOTES }
     {
         self.line.notes.len()
@@ -137,7 +141,6 @@ impl Pad {
         ensures { self.new ≡ spec.without_first_note self.old }
     {
         self.line.notes.drop_first();
-        let _ = self.noted_at.take();
     }
 }
 

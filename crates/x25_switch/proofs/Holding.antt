@@ -1,7 +1,7 @@
 -- What always holds of a switch holds after each event, in which its own joins alone are relayed.
-use Rattle.std.proofs.Common.{◌≡◌, ℕ, suc, map, ◌<◌, List, [], ◌∷◌, ap, subst, sym, refl, inl, ◌∙◌, arith}
+use Rattle.std.proofs.Common.{◌≡◌, ℕ, suc, map, List, [], ◌∷◌, ap, subst, sym, refl, inl, ◌∙◌}
 use Rattle.std.proofs.lemmas.Option.{same_Some}
-use Rattle.std.specs.Prelude.{Bool, true, false, if◌then◌else◌, slice_get, Some, zero, length}
+use Rattle.std.specs.Prelude.{Bool, true, false, if◌then◌else◌, slice_get, zero}
 use Rattle.link_timers.specs.declared.timers.TimerId.{TimerId}
 use Rattle.packet_end.specs.PacketEnd.{PacketEnd, received, after_timer, relinked, KeepsNothingBack}
 use Rattle.packet_end.proofs.Restarting.{restart_keeps}

@@ -1,13 +1,12 @@
 //! The switch and its events.
-ghost use Rattle.std.specs.Prelude.{◌≡◌, ◌≤◌, ◌<◌, ◌∷◌, [], Some, length, MatchResult, slice_get};
+ghost use Rattle.std.specs.Prelude.{◌≡◌, ◌≤◌, ◌<◌, ◌∷◌, [], length, MatchResult, slice_get};
 ghost use Rattle.std.specs.Bool.{OnTrue, OnFalse};
 ghost use Rattle.std.specs.Option.{option_map, option_to_list};
-ghost use Rattle.switch_lines.specs.Lines.{joined_at, role_on};
+ghost use Rattle.switch_lines.specs.Lines.{joined_at};
 ghost use Rattle.switch_lines.specs.Making.{made, IsConfig, MadeNot};
 ghost use Rattle.switch_lines.specs.NewJoins.{new_joins};
 ghost use Rattle.switch_lines.specs.Switch.{on_frame, on_timer, timer_runs, relink, restart, elapse};
-ghost use Rattle.switch_lines.specs.Switch.{without_frame, frames_on, due_on, switch_rests};
-ghost use Rattle.switch_lines.specs.Touched.{AreThere, HasAllFrames};
+ghost use Rattle.switch_lines.specs.Switch.{without_frame, frames_on, due_on};
 ghost use Rattle.packet_end.specs.PacketEnd.{received, after_timer};
 ghost use Rattle.switch_laws.specs.Events.{KeepsLegs};
 ghost use Rattle.switch_laws.specs.Events.Event.{Arrives, Expires, SetsUp, Restarts, Elapses, Departs};
@@ -20,21 +19,20 @@ ghost use Rattle.switch_laws.specs.Steps.Happening.{Brings, RunsOut, Relinks};
 
 use address_routes::Routes;
 use frame_codec::FrameBuf;
-use link_timers::{Role, TimerId};
-use number_set::NumberSet;
+use link_timers::TimerId;
 use packet_end::EndFault;
 use std::alloc::Global;
 use std::marker::Model;
-use switch_lines::{
-    Lines, MOST_FRAMES, MOST_LINES, NewJoin, SwitchChannel, SwitchConfig, check_lines,
-};
+use std::ops::Deref;
+use switch_lines::{Lines, MOST_LINES, NewJoin, SwitchChannel, SwitchConfig, check_lines};
 
 /// A switch: the DCE or the DTE on each of up to 64 lines, of which it joins calls (X.25 3 to 5). A call that comes in
 /// on one line goes on to the line of its route, and all that happens on the one is relayed to the other. A line
 /// without an address is a trunk: a switch is at its other end too.
 ///
 /// Each call that changes the switch, but `elapse` and `out`, is one event. Its frames are then taken by `out`. After
-/// the next event they are gone, as if the line had lost them.
+/// the next event they are gone, as if the line had lost them. What asks about the lines, without a change, is a call of
+/// [`Lines`].
 #[derive(Drop)]
 pub struct Switch {
     routes: Routes,
@@ -56,6 +54,16 @@ impl Model for Switch {
     ghost view = { switch_of };
 
     ghost invariant = { HoldsWithLegs };
+}
+
+impl Deref for Switch {
+    type Target = Lines;
+
+    fn deref(&self) -> &Lines
+        ensures { result.now ≡ self.now.lines }
+    {
+        &self.lines
+    }
 }
 
 impl Switch {
@@ -81,14 +89,6 @@ impl Switch {
         ensures most { result ≤ MOST_LINES }
     {
         self.lines.len()
-    }
-
-    /// The switch's role on a line.
-    pub fn role(&self, line: usize) -> Role
-        requires { line < length self.now.lines }
-        ensures { role_on (slice_get self.now.lines line) ≡ Some result }
-    {
-        self.lines.role(line)
     }
 
     /// Takes the octets of a frame that a line brings, and answers the call that it joined, if it did. A frame joins no
@@ -183,23 +183,6 @@ impl Switch {
         self.lines.out(line, frame)
     }
 
-    /// How many frames wait to go out on a line, at most [`MOST_FRAMES`].
-    pub fn waiting_frames(&self, line: usize) -> usize
-        requires { line < length self.now.lines }
-        ensures count { result ≡ length (frames_on (slice_get self.now.lines line)) }
-        ensures most { result ≤ MOST_FRAMES }
-    {
-        self.lines.waiting_frames(line)
-    }
-
-    /// Lines on which frames may wait to go out: on all others none does.
-    pub fn with_frames(&self) -> NumberSet
-        ensures there { AreThere result self.now.lines }
-        ensures others { HasAllFrames result self.now.lines }
-    {
-        self.lines.with_frames()
-    }
-
     /// Lets ticks pass, each a twentieth of a second: each timer that runs has so many less, not below 0.
     pub fn elapse(&mut self, ticks: u16)
         ensures switch { self.new ≡ elapse ticks self.old }
@@ -214,14 +197,6 @@ impl Switch {
         ensures { result ≡ due_on (slice_get self.now.lines line) }
     {
         self.lines.due(line)
-    }
-
-    /// Whether all lines are at rest: each link is up with nothing unacknowledged, no packet waits to be sent or to be
-    /// carried on, and nothing is gathered.
-    pub fn is_at_rest(&self) -> bool
-        ensures { result ≡ switch_rests self.now }
-    {
-        self.lines.is_at_rest()
     }
 
     /// The channel to which the call on a channel is joined, if there is a call.

@@ -95,7 +95,7 @@ impl Shell<'_> {
     /// Whether the node of a name has started.
     fn runs(&self, service: &Running, name: &str) -> bool {
         match self.names.number(name) {
-            Some(node) => service.runs(node),
+            Some(node) => service.net().runs(node),
             None => false,
         }
     }

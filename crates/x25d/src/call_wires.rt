@@ -1,6 +1,5 @@
 //! The connections of calls over TCP (RFC 1613).
 use gateway_end::GatewayEnd;
-use mio::event::Event;
 use mio::net::TcpStream;
 use std::alloc::{AllocError, Global};
 use std::io;
@@ -41,17 +40,12 @@ pub(crate) enum Change {
 /// The place of the connection of a call.
 #[derive(Drop)]
 pub(crate) struct CallWire {
-    connection: Connection,
+    pub(crate) connection: Connection,
     stage: Stage,
     peer: Option<SocketAddr>,
 }
 
 impl CallWire {
-    /// Notes what the system tells of the socket.
-    pub(crate) fn report(&mut self, event: &Event) {
-        self.connection.report(event);
-    }
-
     /// Whether a connection is here, or is asked for.
     pub(crate) fn is_taken(&self) -> bool {
         self.stage != Stage::Free

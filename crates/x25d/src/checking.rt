@@ -1,21 +1,19 @@
 //! Checks of files.
 use crate::faults::Fault;
-use crate::files::{Octets, read_both, read_network};
+use crate::files::{read_both, read_network};
 use network_reasons::Checked;
-use std::alloc::{AllocError, Global};
 use std::path::Path;
 
 /// Checks a service file, with the network's file that it names, and prints what was found. Says whether nothing is
 /// wrong.
 pub(crate) fn check_service(rt: &HostRuntime, file: &str) -> Result<bool, Fault> {
     let octets = read_both(rt, file)?;
-    let checked = check_octets(rt.alloc(), &octets)?;
+    let checked = service_files::check_service(
+        rt.alloc(),
+        octets.service.as_slice(),
+        octets.network.as_slice(),
+    )?;
     say(rt, &checked)
-}
-
-/// What a check of a service file and its network says.
-pub(crate) fn check_octets(alloc: Global, octets: &Octets) -> Result<Checked, AllocError> {
-    service_files::check_service(alloc, octets.service.as_slice(), octets.network.as_slice())
 }
 
 /// Checks the file of a network, and prints what was found. Says whether nothing is wrong.

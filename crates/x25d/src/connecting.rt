@@ -19,13 +19,13 @@ impl Shell<'_> {
         number: usize,
     ) {
         let Some(at) = self.services.get(number).map(|connect| connect.at) else {
-            service.failed(port);
+            service.lost(port);
             return;
         };
         self.log.connect(rt, port, at);
         if let Err(why) = self.ask(rt, port, at) {
             self.log.failed(rt, port, at, why);
-            service.failed(port);
+            service.lost(port);
         }
     }
 
@@ -50,7 +50,7 @@ impl Shell<'_> {
                 Made::Stands => service.opened(port),
                 Made::Failed(why) => {
                     self.tell_failed(rt, port, why);
-                    service.failed(port);
+                    service.lost(port);
                 }
             }
         }

@@ -20,7 +20,7 @@ pub(crate) struct FarEnd {
     line: usize,
     /// The number of the line in the network's file.
     pub(crate) number: u16,
-    remote: RemoteLine,
+    pub(crate) remote: RemoteLine,
     /// Whether the two ends are joined.
     is_joined: bool,
 }
@@ -55,7 +55,7 @@ impl FarEnd {
     /// Takes what the network has for this end, and says whether that was anything.
     pub(crate) fn take(&mut self, service: &mut Running) -> bool {
         for moves in 0..MOST_MOVES {
-            let count = self.remote.octets(service.line_waiting(self.line));
+            let count = self.remote.octets(service.net().line_waiting(self.line));
             if count == 0 {
                 return moves > 0;
             }
@@ -81,11 +81,6 @@ impl FarEnd {
         if self.remote.may_start() {
             self.remote.start();
         }
-    }
-
-    /// Whether frames go both ways.
-    pub(crate) fn is_open(&self) -> bool {
-        self.remote.is_open()
     }
 
     /// Sends a frame of the equipment. It is lost if the line is not open or has no room.

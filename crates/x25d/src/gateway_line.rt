@@ -68,7 +68,7 @@ impl GatewayLine {
     /// Notes what the system tells of the connection of this number, of those of all gateways, if it is one of this one.
     pub(crate) fn report(&mut self, number: usize, event: &Event) {
         if let Some(wire) = self.wires.get_mut(number.wrapping_sub(self.before)) {
-            wire.report(event);
+            wire.connection.report(event);
         }
     }
 
@@ -202,7 +202,7 @@ impl GatewayLine {
     fn give(&mut self, service: &mut Running) -> bool {
         let mut frame = FrameBuf::new();
         for _ in 0..MOST_FRAMES {
-            if !self.far.is_open() || !self.end.out(&mut frame) {
+            if !self.far.remote.is_open() || !self.end.out(&mut frame) {
                 break;
             }
             self.far.send(frame.as_slice());

@@ -185,7 +185,7 @@ impl<'a> Lines<'a> {
         let wire = self.wires.get(number)?;
         let link = self.links.get(line)?;
         if link.lets_in(door, wire.peer?.ip()) {
-            service.line_meets(line, wire.hello())
+            service.net().line_meets(line, wire.hello())
         } else {
             None
         }

@@ -136,7 +136,7 @@ impl<'a> Names<'a> {
         }
         let far = if call.is_ours { &line.to } else { &line.from };
         match self.node_at(far.as_str()) {
-            Some(node) => service.owns(node) && (call.is_ours || self.is_host(node)),
+            Some(node) => service.net().owns(node) && (call.is_ours || self.is_host(node)),
             None => false,
         }
     }

@@ -1,7 +1,6 @@
 //! What is served: the built-in network, or what a service file says.
 use crate::bindings::Bound;
 use crate::captures::Captures;
-use crate::checking::check_octets;
 use crate::clock::micros_since_1970;
 use crate::faults::Fault;
 use crate::files::{Octets, read_both};
@@ -16,7 +15,7 @@ use line_sim::{Config, MakeFault, mem_lines};
 use network_reasons::read_network;
 use service::{Process, Service, Share};
 use service_files::{Refusal, ServiceFile, read_document, read_service};
-use std::alloc::{AllocError, Global};
+use std::alloc::Global;
 use std::io::{self, ErrorKind};
 use std::net::SocketAddr;
 use std::path::Path;
@@ -66,7 +65,11 @@ pub(crate) fn serve_file(rt: &HostRuntime, name: &str) -> Result<bool, Fault> {
 
 /// Whether a service file can be served. If not, what is wrong first is told on standard error.
 fn is_right(rt: &HostRuntime, octets: &Octets) -> Result<bool, Fault> {
-    let checked = check_octets(rt.alloc(), octets)?;
+    let checked = service_files::check_service(
+        rt.alloc(),
+        octets.service.as_slice(),
+        octets.network.as_slice(),
+    )?;
     if !checked.is_right {
         eprint!(rt; "{}", checked.text)?;
     }

@@ -257,7 +257,7 @@ impl<'a> Shell<'a> {
     /// them, moves before each round. What a round captured is written after it, if it is much, so that the next one finds
     /// room.
     fn give_rounds(&mut self, rt: &HostRuntime, service: &mut Running) -> bool {
-        if service.remote_lines() == 0 && self.captures.is_none() {
+        if service.net().remote_lines() == 0 && self.captures.is_none() {
             return service.work(MOST_ROUNDS);
         }
         for _ in 0..MOST_ROUNDS {

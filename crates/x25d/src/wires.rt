@@ -162,10 +162,10 @@ impl Wire {
             return;
         };
         for _ in 0..MOST_CALLS {
-            if service.line_waiting(line).is_empty() {
+            if service.net().line_waiting(line).is_empty() {
                 return;
             }
-            match self.connection.write(service.line_waiting(line)) {
+            match self.connection.write(service.net().line_waiting(line)) {
                 Written::Octets(count) => service.line_written(line, count),
                 Written::Nothing | Written::Loss => return,
             }
@@ -177,7 +177,7 @@ impl Wire {
         match self.stage {
             Stage::Stands(line) => {
                 self.connection.may_read()
-                    || self.connection.may_write() && !service.line_waiting(line).is_empty()
+                    || self.connection.may_write() && !service.net().line_waiting(line).is_empty()
             }
             Stage::Guest { .. } => self.connection.may_read(),
             Stage::Asked(_) | Stage::Free => false,

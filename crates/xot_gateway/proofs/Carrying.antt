@@ -1,6 +1,6 @@
 -- What goes out on a connection came in on its channel.
-use Rattle.std.proofs.Common.{◌≡◌, ℕ, Bool, true, false, cond, List, [], ◌∷◌, ◌++◌, take, drop, length, slice_get, Option, Some, None, Result, Ok, Err, zero, suc, refl, sym, ap, ◌∙◌, append_assoc, append-nil, take-append-drop, get_or, subst}
-use Rattle.std.specs.Prelude.{position, is_none}
+use Rattle.std.proofs.Common.{◌≡◌, ℕ, Bool, true, false, cond, List, [], ◌∷◌, ◌++◌, take, drop, slice_get, Some, Result, Ok, Err, zero, suc, refl, sym, ap, ◌∙◌, append_assoc, append-nil, take-append-drop, get_or}
+use Rattle.std.specs.Prelude.{is_none}
 use Rattle.std.proofs.lemmas.List.Quantifiers.{position-Some}
 use Rattle.packet_codec.specs.declared.fault.PacketFault.{PacketFault}
 use Rattle.packet_codec.specs.Packet.{PacketValue, ContentValue}
@@ -24,8 +24,7 @@ use Rattle.xot_gateway.specs.declared.connection.Wish.{Wish}
 use Rattle.xot_gateway.specs.declared.connection.Wish.TheVariants.{Rests, Connects, Closes}
 use Rattle.xot_gateway.specs.States.{line_move, connection_move, fault_move}
 use Rattle.xot_gateway.specs.Packets.{read_on, prepared, accepted_facilities, over_connection, clear_on, confirmation_on}
-use Rattle.xot_gateway.specs.Connections.{told, broken, heard_by, heard_in, heard_on, served_by, faulty, refused, place_in, in_call, opened_by, first_move, served_in, by_first, next_connection, next_served, is_absent, is_end, is_on, opened_from, opened, restarted_in, restarted, elapsed, wished, granted, listens, in_phase, cause_at_connection, after_call, with_rest}
-use Rattle.xot_gateway.specs.Calls.{come}
+use Rattle.xot_gateway.specs.Connections.{told, broken, heard_by, heard_in, served_by, faulty, refused, place_in, in_call, opened_by, first_move, served_in, by_first, next_connection, is_absent, is_end, is_on, opened_from, restarted_in, wished, granted, listens, in_phase, cause_at_connection, after_call, with_rest}
 use Rattle.xot_gateway.specs.Laws as laws
 use Rattle.xot_gateway.specs.Laws.{Said, Deed, Fate, passed, dropped, cleared, confirmed, forms, fate_form, IsCarried, CarryLaw, ChannelLaw, IsThere, after_deed, after_deeds, heard_if, heard_of, heard_when, written_of, all_heard, all_written}
 

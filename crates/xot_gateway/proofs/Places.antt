@@ -1,5 +1,5 @@
 -- The channels below a place.
-use Rattle.std.proofs.Common.{◌≡◌, ℕ, zero, suc, ◌+◌, cond, List, Option, Some, ap, arith}
+use Rattle.std.proofs.Common.{◌≡◌, ℕ, zero, suc, ◌+◌, cond, List, Some, ap, arith}
 use Rattle.xot_gateway.specs.declared.states.ChannelState.{ChannelState}
 use Rattle.xot_gateway.specs.declared.connection.Connection.{Connection}
 use Rattle.xot_gateway.specs.Calls.{is_free, highest_free}

@@ -1,5 +1,5 @@
 -- The calls of a line: the table of its channels and that of connections.
-use Rattle.std.specs.Prelude.{◌≡◌, ℕ, zero, suc, ◌-◌, ◌==◌, Bool, true, false, ◌&&◌, is_none, is_some, List, [], ◌∷◌, ◌++◌, length, min, map, set, slice_get, replicate, position, Option, Some, None, Result, Ok, Err, option_and_then, if◌then◌else◌, nat_lt}
+use Rattle.std.specs.Prelude.{◌≡◌, ℕ, zero, suc, ◌-◌, ◌==◌, Bool, true, false, ◌&&◌, is_none, is_some, List, length, min, set, slice_get, replicate, position, Option, Some, None, Result, Ok, Err, option_and_then, if◌then◌else◌, nat_lt}
 use Rattle.packet_codec.specs.ClearCause.{number_busy, out_of_order}
 use Rattle.packet_codec.specs.declared.fault.PacketFault.{PacketFault}
 use Rattle.packet_codec.specs.Packet.{PacketValue, ContentValue, CallRequest, ClearRequest, ClearConfirmation, RestartRequest, RestartConfirmation}

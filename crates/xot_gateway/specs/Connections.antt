@@ -1,17 +1,16 @@
 -- A connection and its call, and what happens to them (RFC 1613): one call, one connection.
-use Rattle.std.specs.Prelude.{◌≡◌, is_some, unwrap_or, ℕ, Bool, true, false, ◌&&◌, ◌==◌, not, List, [], ◌∷◌, ◌++◌, length, drop, is_none, Option, Some, None, Result, Ok, Err, if◌then◌else◌}
+use Rattle.std.specs.Prelude.{is_some, unwrap_or, ℕ, Bool, true, false, ◌&&◌, ◌==◌, not, List, ◌∷◌, ◌++◌, length, drop, is_none, Option, Some, None, Result, Ok, Err, if◌then◌else◌}
 use Rattle.link_timers.specs.Timers.{lowered, is_due}
 use Rattle.packet_codec.specs.ClearCause.{invalid_facility, out_of_order, remote_procedure_error, local_procedure_error}
 use Rattle.packet_codec.specs.declared.fault.PacketFault.{PacketFault}
 use Rattle.packet_codec.specs.Packet.{PacketValue, ContentValue, CallRequest, ClearRequest, ClearConfirmation}
 use Rattle.xot_codec.specs.declared.facilities.LineFlow.{LineFlow}
-use Rattle.xot_codec.specs.declared.stream.XotStream.{XotStream}
 use Rattle.xot_codec.specs.Facilities.{refusal}
 use Rattle.xot_codec.specs.Xot as xot
 use Rattle.xot_codec.specs.Xot.{First, part, whole, first_packet, new_stream, packet_form, takes_packet}
 use Rattle.xot_gateway.specs.declared.line.XotLine.{XotLine}
 use Rattle.xot_gateway.specs.declared.states.Phase.{Phase}
-use Rattle.xot_gateway.specs.declared.states.Phase.TheVariants.{DteWaiting, DceWaiting, DataTransfer, DteClear, DceClear}
+use Rattle.xot_gateway.specs.declared.states.Phase.TheVariants.{DteWaiting, DceWaiting, DteClear, DceClear}
 use Rattle.xot_gateway.specs.declared.states.Refusal.{Refusal}
 use Rattle.xot_gateway.specs.declared.states.Refusal.TheVariants.{Facilities, Procedure}
 use Rattle.xot_gateway.specs.declared.states.Move.{Move}

@@ -1,5 +1,5 @@
 -- A connection, from when it began on: what its channel brought, and what was written to it.
-use Rattle.std.specs.Prelude.{◌≡◌, ℕ, Bool, true, false, List, [], ◌∷◌, ◌++◌, take, position, slice_get, Option, Some, None, Result, if◌then◌else◌}
+use Rattle.std.specs.Prelude.{◌≡◌, ℕ, Bool, true, false, List, [], ◌∷◌, ◌++◌, take, position, slice_get, Some, Result}
 use Rattle.packet_codec.specs.Packet.{ContentValue}
 use Rattle.xot_codec.specs.Xot.{packet_form}
 use Rattle.xot_gateway.specs.declared.line.XotLine.{XotLine}
@@ -7,7 +7,7 @@ use Rattle.xot_gateway.specs.declared.states.Phase.TheVariants.{DceWaiting}
 use Rattle.xot_gateway.specs.declared.states.Move.TheVariants.{Passes}
 use Rattle.xot_gateway.specs.declared.connection.Connection.{Connection}
 use Rattle.xot_gateway.specs.Packets.{over_connection, clear_on, confirmation_on}
-use Rattle.xot_gateway.specs.Connections.{elapsed, granted, heard_by, heard_on, is_absent, is_on, next_connection, next_served, opened, restarted, wished, with_octets, written}
+use Rattle.xot_gateway.specs.Connections.{elapsed, granted, heard_by, heard_on, is_absent, is_on, next_connection, next_served, opened, restarted, wished, written}
 use Rattle.xot_gateway.specs.Calls.{come}
 
 -- a packet of the line: its octets, and what they say

@@ -1,6 +1,6 @@
 -- What a packet becomes, by the phase of its call (X.25 4.1 to 4.4 and Annex B).
 use Rattle.std.specs.Prelude.{Bool, true, false, if◌then◌else◌}
-use Rattle.packet_codec.specs.Packet.{ContentValue, CallRequest, CallAccepted, ClearRequest, ClearConfirmation, Data, Interrupt, InterruptConfirmation, ReceiveReady, ReceiveNotReady, ResetRequest, ResetConfirmation}
+use Rattle.packet_codec.specs.Packet.{ContentValue, CallAccepted, ClearRequest, ClearConfirmation, Data, Interrupt, InterruptConfirmation, ReceiveReady, ReceiveNotReady, ResetRequest, ResetConfirmation}
 use Rattle.xot_gateway.specs.declared.states.Phase.{Phase}
 use Rattle.xot_gateway.specs.declared.states.Phase.TheVariants.{DteWaiting, DceWaiting, DataTransfer, DteClear, DceClear}
 use Rattle.xot_gateway.specs.declared.states.Refusal.TheVariants.{Facilities, Procedure}

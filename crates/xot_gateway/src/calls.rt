@@ -250,14 +250,8 @@ impl XotCalls {
         }
     }
 
-    /// The connection that was ordered could not be made.
-    pub fn failed(&mut self, number: usize)
-        ensures { Loses number self.old self.new }
-    {
-        self.lost(number);
-    }
-
-    /// The connection is lost: its call is cleared with cause 9, and what came over it and was not taken is dropped.
+    /// The connection is lost, or could not be made: its call is cleared with cause 9, and what came over it and was not
+    /// taken is dropped.
     pub fn lost(&mut self, number: usize)
         ensures { Loses number self.old self.new }
     {
@@ -277,7 +271,7 @@ impl XotCalls {
         ensures others { OthersStay self.old self.new }
     {
         match self.connections.get_mut(number) {
-            Some(connection) if connection.listens() => connection.octets(octets),
+            Some(connection) if connection.listens() => connection.stream.octets(octets),
             _ => octets.len(),
         }
     }
@@ -305,7 +299,7 @@ impl XotCalls {
         ensures others { OthersStay self.old self.new }
     {
         if let Some(connection) = self.connections.get_mut(number) {
-            connection.written(count);
+            connection.stream.written(count);
         }
     }
 
@@ -441,7 +435,7 @@ fn elapse_all(ticks: u16, connections: &mut Vec<Connection>)
     ensures { AllChange (elapsed ticks) connections.old.items connections.new.items }
 {
     for number in 0..connections.len() {
-        connections[number].elapse(ticks);
+        connections[number].left.elapse(ticks);
     }
 }
 

@@ -1,50 +1,8 @@
 //! One connection and the call on it.
-ghost use Rattle.std.specs.Prelude.{◌≡◌, ◌-◌, ◌≤◌, false, true, length, min, take, Some, IfOk, IfSome};
-ghost use Rattle.octet_rings.specs.Places.{most_octets};
+ghost use Rattle.std.specs.Prelude.{◌≡◌, ◌-◌, ◌≤◌, false, true, length, Some, IfOk, IfSome};
 ghost use Rattle.packet_codec.specs.View.{answer_view, content_view};
 ghost use Rattle.xot_codec.specs.Xot.{takes_packet};
-ghost use Rattle.xot_gateway.specs.Connections.{
-  absent,
-  after_call,
-  alone_after,
-  answer_of,
-  broken,
-  called,
-  elapsed,
-  called_at,
-  cause_at_connection,
-  cause_at_line,
-  first_content,
-  first_move,
-  first_served,
-  fresh,
-  granted,
-  heard_by,
-  heard_on,
-  in_call,
-  in_phase,
-  is_absent,
-  is_end,
-  is_on,
-  is_pvc_set_up,
-  leaves_when,
-  listens,
-  next_served,
-  next_answer,
-  next_connection,
-  next_packet,
-  opened,
-  packet_after,
-  place_in,
-  restarted,
-  served,
-  served_by,
-  told,
-  wished,
-  with_octets,
-  writes,
-  written,
-};
+ghost use Rattle.xot_gateway.specs.Connections.{absent, after_call, alone_after, answer_of, broken, called, called_at, cause_at_connection, cause_at_line, first_content, first_move, first_served, fresh, granted, heard_by, heard_on, in_call, in_phase, is_absent, is_end, is_on, is_pvc_set_up, leaves_when, listens, next_served, next_answer, next_connection, next_packet, opened, packet_after, place_in, restarted, served, served_by, told, wished, writes};
 ghost use Rattle.xot_gateway.specs.Calls.{has_wish};
 ghost use Rattle.xot_gateway.specs.Packets.{clear_on, confirmation_on, most_packet, over_connection, over_line, read_on};
 ghost use Rattle.xot_gateway.specs.declared.states.Move.TheVariants.{Passes};
@@ -499,14 +457,6 @@ impl Connection {
         }
     }
 
-    /// Takes octets that came, from the first on, as many as there is room for. The answer is how many were taken.
-    pub(crate) fn octets(&mut self, octets: &[u8]) -> usize
-        ensures taken { result ≡ min (length octets.now) (most_octets - length self.old.stream.input) }
-        ensures after { self.new ≡ with_octets (take result octets.now) self.old }
-    {
-        self.stream.octets(octets)
-    }
-
     /// Whether what comes is of any use: it stands, and its call has not ended.
     pub(crate) fn listens(&self) -> bool
         ensures { result ≡ listens self.now }
@@ -539,13 +489,6 @@ impl Connection {
         matches!(self.call, ConnectionCall::Call { place: own, .. } if own == place)
     }
 
-    /// The first `count` octets that wait were written.
-    pub(crate) fn written(&mut self, count: usize)
-        ensures { self.new ≡ written count self.old }
-    {
-        self.stream.written(count);
-    }
-
     /// The line restarts: a call is cleared with cause 9.
     pub(crate) fn restart(&mut self, line: XotLine)
         ensures { self.new ≡ restarted line self.old }
@@ -558,13 +501,6 @@ impl Connection {
             },
             _ => {}
         }
-    }
-
-    /// Lets ticks pass, each a twentieth of a second.
-    pub(crate) fn elapse(&mut self, ticks: u16)
-        ensures { self.new ≡ elapsed ticks self.old }
-    {
-        self.left.elapse(ticks);
     }
 
     /// What the channel of the call is in if the connection is gone, if there is a call.

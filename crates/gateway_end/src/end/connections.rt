@@ -1,7 +1,6 @@
 //! What happens at the connections of a gateway. Each call is one of [`XotCalls`](xot_gateway::XotCalls).
-ghost use Rattle.std.specs.Prelude.{◌≡◌, ◌≤◌, [], length, take, position, slice_get, true, Some};
-ghost use Rattle.xot_gateway.specs.declared.connection.Connection.{Connection as ConnectionValue};
-ghost use Rattle.xot_gateway.specs.Connections.{opened, writes, written};
+ghost use Rattle.std.specs.Prelude.{◌≡◌, ◌≤◌, length, take, position};
+ghost use Rattle.xot_gateway.specs.Connections.{opened, written};
 ghost use Rattle.xot_gateway.specs.Calls.{
   Loses,
   OthersStay,
@@ -11,7 +10,6 @@ ghost use Rattle.xot_gateway.specs.Calls.{
   come,
   granted_channels,
   has_wish,
-  is_line_ready,
   order_among,
   ordered,
 };
@@ -20,13 +18,6 @@ use crate::end::GatewayEnd;
 use xot_gateway::Order;
 
 impl GatewayEnd {
-    /// Whether packets of connections may go to the line: it is in r1.
-    pub fn is_ready(&self) -> bool
-        ensures { result ≡ is_line_ready self.now.calls.state }
-    {
-        self.calls.is_ready()
-    }
-
     /// A connection came, and is to bring a Call. The answer is its number; none if there is no room for it.
     pub fn attach(&mut self) -> Option<usize>
         ensures came { result ≡ position absent_one self.old.calls.connections.items }
@@ -64,17 +55,6 @@ impl GatewayEnd {
         ensures end { self.new ≡ record self.old { calls = self.new.calls } }
     {
         self.calls.came(number, octets)
-    }
-
-    /// Octets that wait to be written to a connection, from the first on: some if there are any, and not always all. None
-    /// wait before it stands.
-    pub fn waiting(&self, number: usize) -> &[u8]
-        ensures front { (c : ConnectionValue) → slice_get self.now.calls.connections.items number ≡ Some c → writes c ≡ true
-            → take (length result.now) c.stream.output ≡ result.now }
-        ensures some { (c : ConnectionValue) → slice_get self.now.calls.connections.items number ≡ Some c → writes c ≡ true
-            → length result.now ≡ 0 → c.stream.output ≡ [] }
-    {
-        self.calls.waiting(number)
     }
 
     /// The first `count` octets that wait were written.

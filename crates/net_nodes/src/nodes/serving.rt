@@ -30,6 +30,13 @@ fn hearer(direction: Direction) -> Role
     }
 }
 
+/// An own line of a switch: the place of the switch among the nodes, and the number of the line there.
+#[derive(Clone, Copy)]
+struct OwnLine {
+    place: usize,
+    own: usize,
+}
+
 /// What a switch hears on an own line: octets.
 fn frame_heard(own: usize, octets: &[u8]) -> SwitchEvent<'_>
     ensures event { switch_event_of result ≡ Hears own octets.now }
@@ -63,7 +70,9 @@ impl<L: Line> Nodes<L> {
         }
         let place = place_at(hearer(direction), net_line);
         match self.own_line(line, place) {
-            Some(own) => self.deliver_to_switch(line, direction, place, own, frame, answer),
+            Some(own) => {
+                self.deliver_to_switch(line, direction, OwnLine { place, own }, frame, answer)
+            }
             None => self.deliver_to_user(line, direction, frame, answer),
         }
     }
@@ -98,30 +107,29 @@ impl<L: Line> Nodes<L> {
         serve_at(nodes, net_line, register, end, &event, answer)
     }
 
-    /// The first frame in flight in a direction arrives at the switch of this place, on an own line of the switch.
+    /// The first frame in flight in a direction arrives at a switch, on an own line of it.
     fn deliver_to_switch(
         &mut self,
         line: usize,
         direction: Direction,
-        place: usize,
-        own: usize,
+        at: OwnLine,
         frame: &mut FrameBuf,
         answer: &mut Answer,
     ) -> Result<(), StepFault>
         requires standing { IsStanding self.old }
-        requires switch { IsOwnLine line place own (hearer direction) self.old }
+        requires switch { IsOwnLine line at.place at.own (hearer direction) self.old }
         ensures done { Happens L.service (event_is.Deliver line direction) self.old
             (result_and result (Ok answer.new)) self.new }
         ensures kept { IsRoomy answer.old → IsRoomy answer.new }
         ensures ready { IsRoomy answer.old → HasNoRecords self.old.register → result ≢ Err OutOfMemory }
     {
-        self.make_switch_room(place, answer)?;
+        self.make_switch_room(at.place, answer)?;
         if !self.lines[line].line.take(direction, frame) {
             answer.outcome = Outcome::Delivered(false);
             return Ok(());
         }
-        let event = frame_heard(own, frame.as_slice());
-        self.switch_acts(place, &event, answer)
+        let event = frame_heard(at.own, frame.as_slice());
+        self.switch_acts(at.place, &event, answer)
     }
 
     /// The first frame in flight in a direction is lost.

@@ -131,15 +131,7 @@ fn serve_user_of<L: Line>(
     let Equipment::User { node, .. } = &mut node.kind else {
         return Err(StepFault::NoSuchNode);
     };
-    serve_user(
-        node,
-        at,
-        net_line.channels,
-        event,
-        &mut net_line.line,
-        register,
-        answer,
-    )
+    serve_user(node, at, event, net_line, register, answer)
 }
 
 /// Serves what a user does at the node at an end of a line, and writes the answer.

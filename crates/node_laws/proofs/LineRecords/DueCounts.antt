@@ -1,6 +1,6 @@
 -- Timers that stop, or start with ticks left: none is due that was not.
-use Rattle.std.proofs.Common.{◌≡◌, ℕ, zero, suc, ◌+◌, ◌<◌, ◌≤◌, Bool, true, false, List, [], ◌∷◌, length, get_or, set, replicate, refl, sym, ap, ◌∙◌, arith}
-use Rattle.std.specs.Prelude.{Option, Some, None, is_some, if◌then◌else◌, slice_get}
+use Rattle.std.proofs.Common.{◌≡◌, ℕ, zero, suc, ◌+◌, ◌<◌, ◌≤◌, Bool, true, false, List, [], ◌∷◌, length, get_or, set, refl, sym, ap, ◌∙◌, arith}
+use Rattle.std.specs.Prelude.{Option, Some, None, if◌then◌else◌, slice_get}
 use Rattle.link_timers.specs.Timers.{Places, is_due, due_by}
 use Rattle.link_timers.specs.ChannelTimers as kind
 use Rattle.link_timers.specs.ChannelTimers.{brought_as, brought_on, due_channels, left_on, stopped_on}

@@ -92,8 +92,12 @@ module _ (s : Setting) (b : Book) (role : Role) (you : PacketEnd) (going coming 
     pub read : l.end.notes ≡ []
     pub kept : KeptIn (noted role l.notes b) l.end
 
-  pub gathered_runs : (l : PadLine) → KeptIn (all_told role l.end.notes (noted role l.notes b)) l.end → Runs (gathered l)
-  gathered_runs l k = record {
+  -- what happens next happens at this terminal
+  pub named_runs : (terminal : Option ℕ) (l : PadLine) → Runs l → Runs (line.at_terminal terminal l)
+  named_runs terminal l h = record { read = h.read; kept = h.kept }
+
+  pub gathered_runs : (terminals : List (Option ℕ)) (l : PadLine) → KeptIn (all_told role l.end.notes (noted role l.notes b)) l.end → Runs (gathered terminals l)
+  gathered_runs terminals l k = record {
     read = refl;
     kept =
         let t = subst (λ (x : Book). KeptIn x l.end) (sym (noted_append role l.notes (notes.all_told l.end.notes) b ∙ noted_told role l.end.notes (noted role l.notes b))) k in
@@ -165,7 +169,7 @@ module _ (s : Setting) (b : Book) (role : Role) (you : PacketEnd) (going coming 
 
   -- ---- a step of editing
 
-  pub edited_runs : (channel : ℕ) (step : Step) (l : PadLine) → Runs l → Runs (record l { notes = l.notes ++ notes.Edited channel step ∷ [] })
+  pub edited_runs : (channel : ℕ) (step : Step) (l : PadLine) → Runs l → Runs (line.noting (notes.Edited channel step ∷ []) l)
   edited_runs channel step l h = record {
     read = h.read;
     kept =

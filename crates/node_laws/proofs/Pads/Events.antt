@@ -20,6 +20,7 @@ use Rattle.node_laws.proofs.LineRecords.KeptAfterActs.{begins_at, hears_at, expi
 use Rattle.node_laws.proofs.LineRecords.LineLaw.{like_kept, silent_kept, made_kept}
 use Rattle.node_laws.proofs.LineRecords.WholeEvents.{ends_on, restarted_kept}
 use Rattle.pad_ports.specs.Notes as notes
+use Rattle.pad_ports.specs.PadLine as line
 use Rattle.pad_ports.specs.PadLine.{last_incoming}
 use Rattle.pad_ports.specs.Ports as port
 use Rattle.pad_ports.specs.Ports.{AtLine}
@@ -27,7 +28,7 @@ use Rattle.x25_pad.specs.Pad as pad
 use Rattle.x25_pad.specs.Pad.{PadState}
 use Rattle.node_laws.specs.Pads.Standing.{StandsAt, KeepsWith, KeepsBy, drained}
 use Rattle.node_laws.specs.Pads.PadClauses.{KeyLaw, BreakLaw, IdleLaw, PrintLaw, LeavingLaw, ArrivalLaw, FrameLaw, TimerLaw, RelinkLaw, RestartLaw, TimeLaw, MakingLaw}
-use Rattle.node_laws.proofs.Pads.Asking.{Runs, noted, noted_append, noted_told, gathered_runs, accepted_runs, cleared_runs}
+use Rattle.node_laws.proofs.Pads.Asking.{Runs, noted, noted_append, noted_told, named_runs, gathered_runs, accepted_runs, cleared_runs}
 use Rattle.node_laws.proofs.Pads.Terminals.{key_runs, idle_runs, break_runs, print_runs, leaving_runs, port_runs}
 
 -- ---- ends of a line
@@ -86,8 +87,10 @@ module _ (s : Setting) (b : Book) (l : Line) (role : Role) (kept : List Bool) (c
 
   -- one that came from the line: the terminals learn of it, and a call that came in is answered
   answered_at_runs : (o : Option ℕ) (channel : ℕ) (p : PadState) → RunsOn p → RunsOn (pad.answered_at o channel p)
-  answered_at_runs None channel p h = cleared_runs s b role you going coming channel p.line h
-  answered_at_runs (Some number) channel p h = accepted_runs s b role you going coming channel p.line h
+  answered_at_runs None channel p h =
+      cleared_runs s b role you going coming channel (line.at_terminal None p.line) (named_runs s b role you going coming None p.line h)
+  answered_at_runs (Some number) channel p h =
+      accepted_runs s b role you going coming channel (line.at_terminal (Some number) p.line) (named_runs s b role you going coming (Some number) p.line h)
 
   answered_runs : (o : Option ℕ) (p : PadState) → RunsOn p → RunsOn (pad.answered o p)
   answered_runs None p h = h
@@ -95,7 +98,7 @@ module _ (s : Setting) (b : Book) (l : Line) (role : Role) (kept : List Bool) (c
 
   line_ends : (p : PadState) → p.line.notes ≡ [] → KeptIn (all_told role p.line.end.notes b) p.line.end → KeepsWith s b role l kept coming (pad.line_event p)
   line_ends p none k =
-      let told = gathered_runs s b role you going coming p.line
+      let told = gathered_runs s b role you going coming (pad.holders p.ports p.line.end.notes) p.line
       (subst (λ (ns : List notes.ChannelNote). KeptIn (all_told role p.line.end.notes (noted role ns b)) p.line.end) (sym none) k) in
       ends (pad.answered (last_incoming None p.line.end.notes) (pad.told p)) (answered_runs (last_incoming None p.line.end.notes) (pad.told p) told)
 

@@ -128,11 +128,11 @@ port_due : (number : ℕ) (act : AtLine → AtLine) (p : PadState) → ((a : AtL
     → NoMoreDue p.line.end (pad.at_port number act p).line.end
 port_due number act p f = by (slice_get p.ports number)
   where
-    by : (o : Option PortState) → NoMoreDue p.line.end (option_map_or (λ found. pad.acted number p (act (record { port = found; line = p.line }))) o p).line.end
+    by : (o : Option PortState) → NoMoreDue p.line.end (option_map_or (λ found. pad.acted number p (act (pad.with_line number found p))) o p).line.end
     by None = same-due p.line.end
     by (Some found) =
-        let g = f (record { port = found; line = p.line }) in
-        same_times p.line.end (act (record { port = found; line = p.line })).line.end g.0 g.1
+        let g = f (pad.with_line number found p) in
+        same_times p.line.end (act (pad.with_line number found p)).line.end g.0 g.1
 
 terminal_due : (number : ℕ) (act : AtLine → AtLine) (p : PadState) → ((a : AtLine) → ((act a).line.end.timers ≡ a.line.end.timers) × ((act a).line.end.line.t1 ≡ a.line.end.line.t1))
     → NoMoreDue p.line.end (pad.terminal_event number act p).line.end
@@ -295,9 +295,9 @@ line_fewer p id f = by (runs_at p.line.end id) f.runs
 idle_fewer : (p : PadState) (number : ℕ) (q : PortState) → slice_get p.ports number ≡ Some q → port.is_due q ≡ true → due_count (drained (pad.terminal_event number port.after_idle p)) < due_count p
 idle_fewer p number q at due =
     let b : PadState = pad.begun p in
-    let act : AtLine = port.after_idle (record { port = q; line = b.line }) in
-    let there : pad.at_port number port.after_idle b ≡ pad.acted number b act = ap (λ (o : Option PortState). option_map_or (λ found. pad.acted number b (port.after_idle (record { port = found; line = b.line }))) o b) at in
-    let count : 1 + idle_count (set p.ports number act.port) ≡ idle_count p.ports = count_less p.ports number q act.port at due (idle_act (record { port = q; line = b.line })).0 in
+    let act : AtLine = port.after_idle (pad.with_line number q b) in
+    let there : pad.at_port number port.after_idle b ≡ pad.acted number b act = ap (λ (o : Option PortState). option_map_or (λ found. pad.acted number b (port.after_idle (pad.with_line number found b))) o b) at in
+    let count : 1 + idle_count (set p.ports number act.port) ≡ idle_count p.ports = count_less p.ports number q act.port at due (idle_act (pad.with_line number q b)).0 in
     let ports : idle_count (pad.at_port number port.after_idle b).ports ≡ idle_count (set p.ports number act.port) = ap (λ (x : PadState). idle_count x.ports) there in
     let ended : idle_count (pad.ended (pad.at_port number port.after_idle b)).ports ≤ idle_count (pad.at_port number port.after_idle b).ports = ended_count (pad.at_port number port.after_idle b) in
     let line : counts.due_count (pad.terminal_event number port.after_idle p).line.end ≤ counts.due_count p.line.end =

@@ -162,7 +162,7 @@ module _ (role : Role) where
   edits_plain : (step : Step) (block : Option (List ℕ)) (o : Option ℕ) (a : AtLine) → PlainAt a → PlainAt (port.on_call (port.edits step block) o a)
   edits_plain step block None a h = h
   edits_plain step block (Some call) a h =
-      block_plain block call (record a { line = record a.line { notes = a.line.notes ++ notes.Edited call step ∷ [] } })
+      block_plain block call (record a { line = line.noting (notes.Edited call step ∷ []) a.line })
       (one_plain a.line.notes (notes.Edited call step) (edited_plain role call step) h)
 
   handles_split : (answer : InputAnswer) (step : Step) (a : AtLine) → PlainAt a → SplitsAt (port.handles answer step a)
@@ -256,9 +256,9 @@ module _ (role : Role) where
   terminal_splits number act f p =
       splits_more (at_port number act (pad.begun p)).line.notes _ (by (slice_get p.ports number)) (told_mute (finished (at_port number act (pad.begun p)).line.end).notes)
     where
-      by : (o : Option PortState) → Splits (option_map_or (λ found. acted number (pad.begun p) (act (record { port = found; line = (pad.begun p).line }))) o (pad.begun p)).line.notes
+      by : (o : Option PortState) → Splits (option_map_or (λ found. acted number (pad.begun p) (act (pad.with_line number found (pad.begun p)))) o (pad.begun p)).line.notes
       by None = plain_splits [] tt
-      by (Some q) = f (record { port = q; line = (pad.begun p).line }) refl
+      by (Some q) = f (pad.with_line number q (pad.begun p)) refl
 
   answered_splits : (o : Option ℕ) (p : PadState) → Splits p.line.notes → Splits (pad.answered o p).line.notes
   answered_splits None p s = s
@@ -338,9 +338,9 @@ none_at number test why p none = by (slice_get p.ports number)
     met None l = refl
     met (Some call) l = ap (λ (v : Bool). if v then l else []) (none call)
 
-    by : (o : Option PortState) → option_map_or (λ q. if meets test q.call then why (record { port = q; line = p.line }) else []) o [] ≡ []
+    by : (o : Option PortState) → option_map_or (λ q. if meets test q.call then why (pad.with_line number q p) else []) o [] ≡ []
     by None = refl
-    by (Some q) = met q.call (why (record { port = q; line = p.line }))
+    by (Some q) = met q.call (why (pad.with_line number q p))
 
 no_occasion : (event : PadEvent) (p : PadState) (test : ℕ → Bool) → ((channel : ℕ) → test channel ≡ false) → occasions_of event p test ≡ []
 no_occasion (HasKey number octet) p test none = none_at number test (by_key octet) (pad.begun p) none

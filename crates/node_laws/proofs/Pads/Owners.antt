@@ -225,7 +225,7 @@ block_port (Some octets) call a = refl
 
 edits_port : (step : Step) (block : Option (List ℕ)) (o : Option ℕ) (a : AtLine) → (port.on_call (port.edits step block) o a).port ≡ a.port
 edits_port step block None a = refl
-edits_port step block (Some call) a = block_port block call (record a { line = record a.line { notes = a.line.notes ++ notes.Edited call step ∷ [] } })
+edits_port step block (Some call) a = block_port block call (record a { line = line.noting (notes.Edited call step ∷ []) a.line })
 
 handles_from : (answer : InputAnswer) (step : Step) (a : AtLine) → CallFrom a (port.handles answer step a)
 handles_from input.Dropped step a c h = inl h
@@ -280,15 +280,15 @@ terminal_from number act f p j c q on =
     ]
   where
     then_at : Option PortState → PadState
-    then_at o = option_map_or (λ found. acted number (pad.begun p) (act (record { port = found; line = (pad.begun p).line }))) o (pad.begun p)
+    then_at o = option_map_or (λ found. acted number (pad.begun p) (act (pad.with_line number found (pad.begun p)))) o (pad.begun p)
 
     by : (o : Option PortState) → slice_get p.ports number ≡ o → (z : PortState) → IsOn (then_at o).ports j c z → WasOn p.ports j c ⊎ Opened c (then_at o).line.notes
     by None at z h = inl (z, h)
     by (Some found) at z h =
-        let a : AtLine = act (record { port = found; line = (pad.begun p).line }) in
+        let a : AtLine = act (pad.with_line number found (pad.begun p)) in
         elim (get_set p.ports number a.port j z h.0) [
           | inl m ↦
-              elim (f (record { port = found; line = (pad.begun p).line }) c (ap (λ (y : PortState). has_channel y.call c) (sym m.1) ∙ h.1)) [
+              elim (f (pad.with_line number found (pad.begun p)) c (ap (λ (y : PortState). has_channel y.call c) (sym m.1) ∙ h.1)) [
                 | inl had ↦ inl (found, (ap (λ (k : ℕ). slice_get p.ports k) m.0 ∙ at, had))
                 | inr opened ↦ inr opened
               ]

@@ -9,7 +9,6 @@ use Rattle.packet_layer.specs.Layer.{front_on}
 use Rattle.pad_terminal.specs.Terminal.{may_show}
 use Rattle.pad_ports.specs.Ports as port
 use Rattle.pad_ports.specs.Ports.{PortState, AtLine, has_channel, text_taken}
-use Rattle.pad_ports.specs.PadLine.{PadLine}
 use Rattle.x25_pad.specs.Pad as pad
 use Rattle.x25_pad.specs.Pad.{PadState, acted, changed_at, holder, print_taken}
 use Rattle.node_laws.specs.Pads.Own.{OwnPacketLaw, OwnTextLaw, OthersStayLaw, LearnsOwnLaw}
@@ -34,20 +33,17 @@ shown_is true o x e = e
 shown_is false o x e = absurd (none-some x e)
 
 -- of the port of this number
-abbrev begun_line : PadState → PadLine
-begun_line p = (pad.begun p).line
-
-print_is : (p : PadState) (number : ℕ) (q : PortState) → slice_get p.ports number ≡ Some q → print_taken number p ≡ port.taken_of (record { port = q; line = begun_line p })
-print_is p number q at = ap (λ (o : Option PortState). option_map_or (λ found. port.taken_of (record { port = found; line = begun_line p })) o None) at
+print_is : (p : PadState) (number : ℕ) (q : PortState) → slice_get p.ports number ≡ Some q → print_taken number p ≡ port.taken_of (pad.with_line number q (pad.begun p))
+print_is p number q at = ap (λ (o : Option PortState). option_map_or (λ found. port.taken_of (pad.with_line number found (pad.begun p))) o None) at
 
 pub own_packet : OwnPacketLaw
 own_packet p number q x at e =
-    let a : AtLine = record { port = q; line = begun_line p } in
+    let a : AtLine = pad.with_line number q (pad.begun p) in
     next_is q.call a x (shown_is (may_show q.terminal) (port.next_on q.call a) x (sym (print_is p number q at) ∙ e))
 
 pub own_text : OwnTextLaw
 own_text p number q at =
-    ap (λ (o : Option PortState). option_map_or (λ found. port.printed (record { port = found; line = begun_line p })) o []) at
+    ap (λ (o : Option PortState). option_map_or (λ found. port.printed (pad.with_line number found (pad.begun p))) o []) at
     ∙ ap (λ (o : Option Taken). q.terminal.output.text ++ text_taken o q.terminal) (sym (print_is p number q at))
 
 -- ---- the other terminals
@@ -62,9 +58,9 @@ get_other (p ∷ ports) (suc i) (suc j) x h = get_other ports i j x (λ e. h (ap
 pub others_stay : OthersStayLaw
 others_stay p number other act h = by (slice_get p.ports number)
   where
-    by : (o : Option PortState) → slice_get (option_map_or (λ found. acted number p (act (record { port = found; line = p.line }))) o p).ports other ≡ slice_get p.ports other
+    by : (o : Option PortState) → slice_get (option_map_or (λ found. acted number p (act (pad.with_line number found p))) o p).ports other ≡ slice_get p.ports other
     by None = refl
-    by (Some found) = get_other p.ports number other (act (record { port = found; line = p.line })).port h
+    by (Some found) = get_other p.ports number other (act (pad.with_line number found p)).port h
 
 pub changed_other : (ports : List PortState) (i j : ℕ) (f : PortState → PortState) → (j ≡ i → ⊥) → slice_get (changed_at i f ports) j ≡ slice_get ports j
 changed_other ports i j f h = by (slice_get ports i)

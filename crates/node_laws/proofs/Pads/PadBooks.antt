@@ -86,8 +86,8 @@ module _ (role : Role) (b : Book) where
   abbrev Others : List PortState → (number : ℕ) → ℕ → List ℕ → Type 0
   Others ports i c t = (j : ℕ) × (q : PortState) × (j ≡ i → ⊥) × (slice_get ports j ≡ Some q) × (has_channel q.call c ≡ true) × (q.terminal.held ≡ t)
 
-  at_holds : (l : PadLine) (ports : List PortState) (i : ℕ) (p : PortState) → slice_get ports i ≡ Some p → MidHolds l ports → AtHolds role b (Others ports i) (record { port = p; line = l })
-  at_holds l ports i p at h = record {
+  at_holds : (terminal : Option ℕ) (l : PadLine) (ports : List PortState) (i : ℕ) (p : PortState) → slice_get ports i ≡ Some p → MidHolds l ports → AtHolds role b (Others ports i) (record { port = p; line = line.at_terminal terminal l })
+  at_holds terminal l ports i p at h = record {
     size = h.size;
     port = h.each i p at;
     read = h.read;
@@ -144,12 +144,12 @@ module _ (role : Role) (b : Book) where
   port_holds number act p f h = by (slice_get p.ports number) refl
     where
       by : (o : Option PortState) → slice_get p.ports number ≡ o →
-          let q : PadState = option_map_or (λ found. acted number p (act (record { port = found; line = p.line }))) o p in
+          let q : PadState = option_map_or (λ found. acted number p (act (pad.with_line number found p))) o p in
           MidHolds q.line q.ports
       by None e = h
       by (Some found) e =
-          from_at p.line p.ports number (act (record { port = found; line = p.line })) h
-          (f (Others p.ports number) (record { port = found; line = p.line }) (at_holds p.line p.ports number found e h))
+          from_at p.line p.ports number (act (pad.with_line number found p)) h
+          (f (Others p.ports number) (pad.with_line number found p) (at_holds (Some number) p.line p.ports number found e h))
 
   -- ---- what the packet layer told
 
@@ -300,8 +300,8 @@ module _ (role : Role) (b : Book) where
   answered_holds (Some channel) p size read unread h = by (pad.first_free p.ports) refl
     where
       by : (o : Option ℕ) → pad.first_free p.ports ≡ o → MidHolds (pad.answered_at o channel p).line (pad.answered_at o channel p).ports
-      by None e = clears_it channel p size read unread h
-      by (Some number) e = accepts_it channel number p e size read unread h
+      by None e = clears_it channel (record p { line = line.at_terminal None p.line }) size read unread h
+      by (Some number) e = accepts_it channel number (record p { line = line.at_terminal (Some number) p.line }) e size read unread h
 
   -- ---- the end of an event
 

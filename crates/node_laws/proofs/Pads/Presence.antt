@@ -1,5 +1,5 @@
 -- A terminal that leaves and arrives, and the calls that begin.
-use Rattle.std.specs.Prelude.{◌≡◌, ℕ, zero, suc, ◌≤◌, ◌⊎◌, Bool, true, false, if◌then◌else◌, List, [], ◌∷◌, ◌++◌, Contains, length, map, slice_get, slice_set, Option, Some, None}
+use Rattle.std.specs.Prelude.{◌≡◌, ℕ, zero, suc, ◌≤◌, ◌⊎◌, Bool, true, false, if◌then◌else◌, List, [], ◌∷◌, ◌++◌, Contains, length, map, slice_get, Option, Some, None}
 use Rattle.std.specs.Option.{option_map, option_map_or}
 use Rattle.std.proofs.Common.{inl, inr, refl, sym, ap, subst, ◌∙◌, true≢false, arith}
 use Rattle.std.proofs.lemmas.Bool.{cases_eq, eqb-true}
@@ -13,8 +13,8 @@ use Rattle.data_transfer.specs.Traffic.{Taken}
 use Rattle.data_transfer.specs.Traffic.Taken.{TakenInterrupt, TakenPacket}
 use Rattle.packet_channel.specs.Channel.{Refusal}
 use Rattle.packet_channel.specs.Channel.Request.{Releasing}
-use Rattle.packet_layer.specs.Layer.{channel_given, call_refusal, front_on}
-use Rattle.packet_end.specs.PacketEnd.{PacketEnd, received, after_timer, relinked, finished, runs_at}
+use Rattle.packet_layer.specs.Layer.{channel_given, call_refusal}
+use Rattle.packet_end.specs.PacketEnd.{finished, runs_at}
 use Rattle.record_laws.proofs.Books.Basics.{get_set, set_here}
 use Rattle.link_timers.specs.declared.role.Role.{Role}
 use Rattle.call_records.specs.Book.{Book, side_of, slot_at}
@@ -48,7 +48,7 @@ use Rattle.x25_pad.specs.Pad.{PadState, all_heard, changed_at, at_port, acted, h
 use Rattle.node_laws.specs.Pads.Holds.{IsOn}
 use Rattle.node_laws.specs.Pads.Courses.{Here, Course, happened}
 use Rattle.node_laws.specs.Pads.Happening.{PadEvent, HasKey, HasBreak, HasIdleTime, HasPrinting, HasLeaving, HasArrival, HasFrame, HasExpiry, HasRelink, HasRestart, HasTicks, after_event, writes_after}
-use Rattle.node_laws.specs.Pads.Presence.{absent_port, IsAbsentAt, LeavesLaw, LeavesAbsent, StaysAbsentLaw, IsCutOffAt, AbsentLaw, ArrivesLaw, PresentLaw, begun_in, begun_by, CallLaw, HasArrived, arrives, continues, elsewhere, IsShownOf, ShownLaw}
+use Rattle.node_laws.specs.Pads.Presence.{absent_port, IsAbsentAt, LeavesLaw, LeavesAbsent, StaysAbsentLaw, AbsentLaw, ArrivesLaw, PresentLaw, begun_in, CallLaw, HasArrived, arrives, continues, elsewhere, IsShownOf, ShownLaw}
 use Rattle.node_laws.proofs.Pads.Ports.{found_at, changed_port, changed_for, changed_on, connected_by, cleared_by, reset_by, heard_connected, heard_cleared, heard_reset, heard_none, heard_more}
 use Rattle.node_laws.proofs.Pads.Asking.{noted}
 use Rattle.node_laws.proofs.Pads.Owners.{grown, closes_length, stays_on}
@@ -93,9 +93,9 @@ module _ (number : ℕ) (params : List ℕ) where
       here : at_number ≡ number → Absent (at_port at_number act p)
       here same =
           subst (λ (n : ℕ). Absent (at_port n act p)) (sym same)
-          (ap (λ (o : Option PortState). slice_get (option_map_or (λ found. acted number p (act (record { port = found; line = p.line }))) o p).ports number) at
-          ∙ set_here p.ports number (act (record { port = absent_port params; line = p.line })).port (absent_port params) at
-          ∙ ap Some (keeps same p.line))
+          (ap (λ (o : Option PortState). slice_get (option_map_or (λ found. acted number p (act (pad.with_line number found p))) o p).ports number) at
+          ∙ set_here p.ports number (act (pad.with_line number (absent_port params) p)).port (absent_port params) at
+          ∙ ap Some (keeps same (pad.with_line number (absent_port params) p).line))
 
   terminal_absent : (at_number : ℕ) (act : AtLine → AtLine) → (at_number ≡ number → Keeps act) → (p : PadState) → Absent p → Absent (pad.terminal_event at_number act p)
   terminal_absent at_number act keeps p at = ended_absent (at_port at_number act (pad.begun p)) (port_absent at_number act keeps (pad.begun p) at)
@@ -152,10 +152,10 @@ stays_absent event p number params h at = event_absent number params event p h a
 
 -- the port at which something happened
 port_here : (number : ℕ) (act : AtLine → AtLine) (p : PadState) (q : PortState) → slice_get p.ports number ≡ Some q
-    → slice_get (at_port number act p).ports number ≡ Some (act (record { port = q; line = p.line })).port
+    → slice_get (at_port number act p).ports number ≡ Some (act (pad.with_line number q p)).port
 port_here number act p q at =
-    ap (λ (o : Option PortState). slice_get (option_map_or (λ found. acted number p (act (record { port = found; line = p.line }))) o p).ports number) at
-    ∙ set_here p.ports number (act (record { port = q; line = p.line })).port q at
+    ap (λ (o : Option PortState). slice_get (option_map_or (λ found. acted number p (act (pad.with_line number found p))) o p).ports number) at
+    ∙ set_here p.ports number (act (pad.with_line number q p)).port q at
 
 pub leaves : LeavesLaw
 leaves p number q at =
@@ -163,13 +163,13 @@ leaves p number q at =
     (port_here number port.after_leaving (pad.begun p) q at ∙ ap Some (by q.call))
   where
     by : (o : Option ℕ)
-        → (let cleared = port.on_call port.clears o (record { port = q; line = (pad.begun p).line }) in port.left cleared.port) ≡ absent_port q.terminal.settings.initial
+        → (let cleared = port.on_call port.clears o (pad.with_line number q (pad.begun p)) in port.left cleared.port) ≡ absent_port q.terminal.settings.initial
     by None = refl
     by (Some call) = refl
 
 seen : {A : Type 0} (f : AtLine → A) (none : A) (p : PadState) (number : ℕ) (q : PortState) → slice_get p.ports number ≡ Some q
-    → option_map_or (λ found. f (record { port = found; line = p.line })) (slice_get p.ports number) none ≡ f (record { port = q; line = p.line })
-seen f none p number q at = ap (λ (o : Option PortState). option_map_or (λ found. f (record { port = found; line = p.line })) o none) at
+    → option_map_or (λ found. f (pad.with_line number found p)) (slice_get p.ports number) none ≡ f (pad.with_line number q p)
+seen f none p number q at = ap (λ (o : Option PortState). option_map_or (λ found. f (pad.with_line number found p)) o none) at
 
 pub is_cut_off : AbsentLaw
 is_cut_off p number params at = record {
@@ -396,13 +396,13 @@ CallIs number c ports ns = Had ports number c ⊎ Begins c ns
 port_had : (number : ℕ) (act : AtLine → AtLine) → ((a : AtLine) → Gives a (act a)) → (p : PadState) (other c : ℕ) → Had (at_port number act p).ports other c → CallIs other c p.ports (at_port number act p).line.notes
 port_had number act gives p other c = by (slice_get p.ports number) refl
   where
-    by : (o : Option PortState) → slice_get p.ports number ≡ o → let after : PadState = option_map_or (λ found. acted number p (act (record { port = found; line = p.line }))) o p in
+    by : (o : Option PortState) → slice_get p.ports number ≡ o → let after : PadState = option_map_or (λ found. acted number p (act (pad.with_line number found p))) o p in
         Had after.ports other c → CallIs other c p.ports after.line.notes
     by None is m = inl m
     by (Some q) is m =
-        elim (get_set p.ports number (act (record { port = q; line = p.line })).port other m.0 m.1) [
+        elim (get_set p.ports number (act (pad.with_line number q p)).port other m.0 m.1) [
           | inl k ↦
-              elim (gives (record { port = q; line = p.line }) c (ap (λ (x : PortState). x.call) (sym k.1) ∙ m.2)) [
+              elim (gives (pad.with_line number q p) c (ap (λ (x : PortState). x.call) (sym k.1) ∙ m.2)) [
                 | inl e ↦ inl (q, ap (λ (n : ℕ). slice_get p.ports n) k.0 ∙ is, e)
                 | inr b ↦ inr b
               ]
@@ -553,7 +553,7 @@ shown_since role number records s x h e = by (slice_get s.pad.ports number) refl
   where
     by : (o : Option PortState) → slice_get s.pad.ports number ≡ o → IsShownOf role number records s x
     by None is =
-        absurd (none-some x (ap (λ (o : Option PortState). option_map_or (λ found. port.taken_of (record { port = found; line = (pad.begun s.pad).line })) o None) (sym is) ∙ e))
+        absurd (none-some x (ap (λ (o : Option PortState). option_map_or (λ found. port.taken_of (pad.with_line number found (pad.begun s.pad))) o None) (sym is) ∙ e))
     by (Some q) is =
         let own = own_packet s.pad number q x is e in
         record { call = own.0; front = own.2; since = λ n present. own_since role number records s h own.0 n q (is, its_channel q.call own.0 own.1) present }

@@ -181,7 +181,7 @@ module _ (f : ChannelNote → Octets) (kind : IsKind f) where
   pub edits_say : (step : Step) (block : Option (List ℕ)) (o : Option ℕ) (a : AtLine) → all_in f (port.on_call (port.edits step block) o a).line.notes ≡ all_in f a.line.notes
   edits_say step block None a = refl
   edits_say step block (Some call) a =
-      block_says block call (record a { line = record a.line { notes = a.line.notes ++ notes.Edited call step ∷ [] } })
+      block_says block call (record a { line = line.noting (notes.Edited call step ∷ []) a.line })
       ∙ silent_more f a.line.notes (notes.Edited call step) (kind.edited call step)
 
   handles_says : NoInterrupts f → (answer : InputAnswer) (step : Step) (a : AtLine) → all_in f (port.handles answer step a).line.notes ≡ all_in f a.line.notes
@@ -207,11 +207,11 @@ nothing_noted f ns e = ap (λ (l : List ChannelNote). all_in f l) e
 -- something happens at a terminal, and that is an event
 module _ (f : ChannelNote → Octets) (kind : IsKind f) (g : List Occasion → Octets) (none : g [] ≡ []) (test : ℕ → Bool) where
   pub event_says : (number : ℕ) (act : AtLine → AtLine) (why : AtLine → List Occasion) (p : PadState)
-      → ((q : PortState) → IsSaidBy f g test act why (record { port = q; line = (pad.begun p).line })) → all_in f (pad.terminal_event number act p).line.notes ≡ g (at_terminal number test why (pad.begun p))
+      → ((q : PortState) → IsSaidBy f g test act why (pad.with_line number q (pad.begun p))) → all_in f (pad.terminal_event number act p).line.notes ≡ g (at_terminal number test why (pad.begun p))
   event_says number act why p said = ended_says f kind (at_port number act (pad.begun p)) ∙ by (slice_get p.ports number)
     where
-      by : (o : Option PortState) → all_in f (option_map_or (λ found. acted number (pad.begun p) (act (record { port = found; line = (pad.begun p).line }))) o (pad.begun p)).line.notes
-          ≡ g (option_map_or (λ q. if meets test q.call then why (record { port = q; line = (pad.begun p).line }) else []) o [])
+      by : (o : Option PortState) → all_in f (option_map_or (λ found. acted number (pad.begun p) (act (pad.with_line number found (pad.begun p)))) o (pad.begun p)).line.notes
+          ≡ g (option_map_or (λ q. if meets test q.call then why (pad.with_line number q (pad.begun p)) else []) o [])
       by None = sym none
       by (Some q) = said q refl
 
@@ -219,9 +219,9 @@ module _ (f : ChannelNote → Octets) (kind : IsKind f) (g : List Occasion → O
   pub silent_says : (number : ℕ) (act : AtLine → AtLine) → ((a : AtLine) → all_in f (act a).line.notes ≡ all_in f a.line.notes) → (p : PadState) → all_in f (pad.terminal_event number act p).line.notes ≡ g []
   silent_says number act same p = ended_says f kind (at_port number act (pad.begun p)) ∙ by (slice_get p.ports number) ∙ sym none
     where
-      by : (o : Option PortState) → all_in f (option_map_or (λ found. acted number (pad.begun p) (act (record { port = found; line = (pad.begun p).line }))) o (pad.begun p)).line.notes ≡ []
+      by : (o : Option PortState) → all_in f (option_map_or (λ found. acted number (pad.begun p) (act (pad.with_line number found (pad.begun p)))) o (pad.begun p)).line.notes ≡ []
       by None = refl
-      by (Some q) = same (record { port = q; line = (pad.begun p).line })
+      by (Some q) = same (pad.with_line number q (pad.begun p))
 
 -- ---- keys
 

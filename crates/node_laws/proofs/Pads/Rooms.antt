@@ -84,8 +84,8 @@ abbrev FitsAt : AtLine → Type 0
 FitsAt a = Fits a.line.notes × (a.line.end.notes ≡ [])
 
 -- the port and the line when nothing is noted yet
-abbrev bare : PortState → PacketEnd → AtLine
-bare q e = record { port = q; line = record { end = e; notes = [] } }
+abbrev bare : (terminal : Option ℕ) → PortState → PacketEnd → AtLine
+bare t q e = record { port = q; line = record { end = e; notes = []; noted_at = []; terminal = t } }
 
 fits_none : Fits []
 fits_none rest room pairs two h = h room pairs
@@ -139,12 +139,12 @@ fits_took_cleared channel taken o on rest room pairs two h = (omega (arith, two)
 
 -- ---- what a terminal asks
 
-module _ (q : PortState) (e : PacketEnd) (told : e.notes ≡ []) where
-  on_call_fits : (act : ℕ → AtLine → AtLine) (o : Option ℕ) → ((call : ℕ) → FitsAt (act call (bare q e))) → FitsAt (port.on_call act o (bare q e))
+module _ (t : Option ℕ) (q : PortState) (e : PacketEnd) (told : e.notes ≡ []) where
+  on_call_fits : (act : ℕ → AtLine → AtLine) (o : Option ℕ) → ((call : ℕ) → FitsAt (act call (bare t q e))) → FitsAt (port.on_call act o (bare t q e))
   on_call_fits act None f = (fits_none, told)
   on_call_fits act (Some call) f = f call
 
-  does_fits : (r : TerminalRequest) → FitsAt (port.does r (bare q e))
+  does_fits : (r : TerminalRequest) → FitsAt (port.does r (bare t q e))
   does_fits (request.Call s) = (fits_placed (channel_given e.layer e.layer.phase) s.address, told)
   does_fits request.Clear =
       on_call_fits port.clears q.call (λ call. (fits_cleared (request_refusal e.layer call (ask.Clearing 0 0)) call, told))
@@ -154,11 +154,11 @@ module _ (q : PortState) (e : PacketEnd) (told : e.notes ≡ []) where
   does_fits request.Reset =
       on_call_fits port.resets q.call (λ call. (fits_reset (request_refusal e.layer call (ask.Resetting 0 0)) call, told))
 
-  asked_fits : (o : Option TerminalRequest) → FitsAt (port.does_asked o (bare q e))
+  asked_fits : (o : Option TerminalRequest) → FitsAt (port.does_asked o (bare t q e))
   asked_fits None = (fits_none, told)
   asked_fits (Some r) = does_fits r
 
-  tells_fits : (o : Option Message) → FitsAt (port.tells o (bare q e))
+  tells_fits : (o : Option Message) → FitsAt (port.tells o (bare t q e))
   tells_fits None = (fits_none, told)
   tells_fits (Some m) =
       on_call_fits (port.sends (octets_of m) true) q.call
@@ -166,12 +166,12 @@ module _ (q : PortState) (e : PacketEnd) (told : e.notes ≡ []) where
 
   -- ---- a key, and the end of an idle time
 
-  block_fits : (step : Step) (block : Option (List ℕ)) (call : ℕ) → FitsAt (port.edits step block call (bare q e))
+  block_fits : (step : Step) (block : Option (List ℕ)) (call : ℕ) → FitsAt (port.edits step block call (bare t q e))
   block_fits step None call = ((λ rest room pairs two h. (omega (arith, two), h (room - 1) pairs)), told)
   block_fits step (Some text) call =
       (fits_edited call step (request_refusal e.layer call (ask.Sending (line.datum text false))) (line.datum text false), told)
 
-  handles_fits : (answer : InputAnswer) (step : Step) → FitsAt (port.handles answer step (bare q e))
+  handles_fits : (answer : InputAnswer) (step : Step) → FitsAt (port.handles answer step (bare t q e))
   handles_fits input.Dropped step = (fits_none, told)
   handles_fits (input.Edited block) step = on_call_fits (port.edits step block) q.call (λ call. block_fits step block call)
   handles_fits (input.Taken o) step = asked_fits o
@@ -179,8 +179,8 @@ module _ (q : PortState) (e : PacketEnd) (told : e.notes ≡ []) where
 -- ---- a break
 
 -- an interrupt, and then an indication of break; where the call is reset there is none
-module _ (q : PortState) (e : PacketEnd) (told : e.notes ≡ []) (m : Message) where
-  interrupt_told : (o : Option ℕ) → FitsAt (port.tells (Some m) (port.on_call port.interrupts o (bare (record q { call = o }) e)))
+module _ (t : Option ℕ) (q : PortState) (e : PacketEnd) (told : e.notes ≡ []) (m : Message) where
+  interrupt_told : (o : Option ℕ) → FitsAt (port.tells (Some m) (port.on_call port.interrupts o (bare t (record q { call = o }) e)))
   interrupt_told None = (fits_none, told)
   interrupt_told (Some call) = (
     fits_interrupt_told (request_refusal e.layer call (ask.Interrupting (line.interrupt_octet ∷ [])))
@@ -193,31 +193,31 @@ module _ (q : PortState) (e : PacketEnd) (told : e.notes ≡ []) (m : Message) w
       → FitsAt (port.answers_break (break_answer.Taken (record {
         request = if resets then (if pending then None else Some request.Reset) else if interrupts then Some request.Interrupt else None;
         indication = if indicates && not resets then Some m else None;
-      })) (bare q e))
+      })) (bare t q e))
   break_fits true true interrupts true = (fits_none, told)
   break_fits true true interrupts false = (fits_none, told)
-  break_fits true false interrupts true = does_fits q e told request.Reset
-  break_fits true false interrupts false = does_fits q e told request.Reset
+  break_fits true false interrupts true = does_fits t q e told request.Reset
+  break_fits true false interrupts false = does_fits t q e told request.Reset
   break_fits false pending true true = interrupt_told q.call
-  break_fits false pending true false = does_fits q e told request.Interrupt
-  break_fits false pending false true = tells_fits q e told (Some m)
+  break_fits false pending true false = does_fits t q e told request.Interrupt
+  break_fits false pending false true = tells_fits t q e told (Some m)
   break_fits false pending false false = (fits_none, told)
 
-answers_fit : (q : PortState) (e : PacketEnd) → e.notes ≡ [] → (dropped connected : Bool) (params : List ℕ) (call : CallCondition)
+answers_fit : (t : Option ℕ) (q : PortState) (e : PacketEnd) → e.notes ≡ [] → (dropped connected : Bool) (params : List ℕ) (call : CallCondition)
     → FitsAt (port.answers_break (if dropped then break_answer.Dropped else if connected
     then break_answer.Taken (record { request = breaks.request_of params call; indication = breaks.indication_of params })
-    else break_answer.Taken (record { request = None; indication = None })) (bare q e))
-answers_fit q e told true connected params call = (fits_none, told)
-answers_fit q e told false true params call =
-    break_fits q e told (Rattle.x29_messages.specs.declared.message.Message.TheVariants.IndicationOfBreak (record { items = breaks.discard_pairs params }))
+    else break_answer.Taken (record { request = None; indication = None })) (bare t q e))
+answers_fit t q e told true connected params call = (fits_none, told)
+answers_fit t q e told false true params call =
+    break_fits t q e told (Rattle.x29_messages.specs.declared.message.Message.TheVariants.IndicationOfBreak (record { items = breaks.discard_pairs params }))
     (acts_on_break params action.Reset) call.reset_pending (acts_on_break params action.Interrupt && call.may_interrupt) (acts_on_break params action.Indication)
-answers_fit q e told false false params call = (fits_none, told)
+answers_fit t q e told false false params call = (fits_none, told)
 
 -- ---- what is shown
 
-module _ (q : PortState) (e : PacketEnd) (told : e.notes ≡ []) (channel : ℕ) (taken : Taken) where
+module _ (t : Option ℕ) (q : PortState) (e : PacketEnd) (told : e.notes ≡ []) (channel : ℕ) (taken : Taken) where
   abbrev took : PortState → PacketEnd → AtLine
-  took p f = record { port = p; line = record { end = f; notes = notes.Took channel taken ∷ [] } }
+  took p f = record { port = p; line = record { end = f; notes = notes.Took channel taken ∷ []; noted_at = t ∷ []; terminal = t } }
 
   reply_sent : (m : Message) (o : Option ℕ) (p : PortState) (f : PacketEnd) → f.notes ≡ [] → FitsAt (port.on_call (port.sends (octets_of m) true) o (took p f))
   reply_sent m None p f is = (fits_took channel taken, is)
@@ -239,16 +239,16 @@ module _ (q : PortState) (e : PacketEnd) (told : e.notes ≡ []) (channel : ℕ)
       replies_fit answered.reply (port.with_terminal answered.terminal p) f is
   datum_fits d false p f is = (fits_took channel taken, is)
 
-taking_fits : (taken : Taken) (call : ℕ) (q : PortState) (e : PacketEnd) → e.notes ≡ [] → FitsAt (port.after_taking taken call (port.takes taken call (bare q e)))
-taking_fits (TakenInterrupt octets) call q e told = (fits_took call (TakenInterrupt octets), told)
-taking_fits (TakenPacket d) call q e told =
-    datum_fits q e told call (TakenPacket d) d d.qualified q (end.asked (end.asked e call ask.Taking) call (ask.Releasing 1)) told
+taking_fits : (taken : Taken) (call : ℕ) (t : Option ℕ) (q : PortState) (e : PacketEnd) → e.notes ≡ [] → FitsAt (port.after_taking taken call (port.takes taken call (bare t q e)))
+taking_fits (TakenInterrupt octets) call t q e told = (fits_took call (TakenInterrupt octets), told)
+taking_fits (TakenPacket d) call t q e told =
+    datum_fits t q e told call (TakenPacket d) d d.qualified q (end.asked (end.asked e call ask.Taking) call (ask.Releasing 1)) told
 
-next_fits : (o : Option ℕ) (taken : Option Taken) (q : PortState) (e : PacketEnd) → e.notes ≡ []
-    → FitsAt (port.after_taken taken (port.with_taken taken (bare (record q { call = o }) e)))
-next_fits o None q e told = (fits_none, told)
-next_fits None (Some taken) q e told = (fits_none, told)
-next_fits (Some call) (Some taken) q e told = taking_fits taken call (record q { call = Some call }) e told
+next_fits : (o : Option ℕ) (taken : Option Taken) (t : Option ℕ) (q : PortState) (e : PacketEnd) → e.notes ≡ []
+    → FitsAt (port.after_taken taken (port.with_taken taken (bare t (record q { call = o }) e)))
+next_fits o None t q e told = (fits_none, told)
+next_fits None (Some taken) t q e told = (fits_none, told)
+next_fits (Some call) (Some taken) t q e told = taking_fits taken call t (record q { call = Some call }) e told
 
 -- ---- an event at a terminal
 
@@ -257,40 +257,40 @@ ended_room p fits told room pairs two one =
     fits (all_told (finished p.line.end).notes) room pairs two
     (λ left others. told_none (finished p.line.end).notes left others (finished_same p.line.end ∙ ap opening_notes told))
 
-terminal_room : (number : ℕ) (act : AtLine → AtLine) (p : PadState) → ((q : PortState) (e : PacketEnd) → e.notes ≡ [] → FitsAt (act (bare q e))) → NeedsTwoAtMost (pad.terminal_event number act p)
+terminal_room : (number : ℕ) (act : AtLine → AtLine) (p : PadState) → ((t : Option ℕ) (q : PortState) (e : PacketEnd) → e.notes ≡ [] → FitsAt (act (bare t q e))) → NeedsTwoAtMost (pad.terminal_event number act p)
 terminal_room number act p f = by (slice_get p.ports number)
   where
     started : PadState
     started = pad.begun p
 
-    by : (o : Option PortState) → NeedsTwoAtMost (pad.ended (option_map_or (λ found. pad.acted number started (act (record { port = found; line = started.line }))) o started))
+    by : (o : Option PortState) → NeedsTwoAtMost (pad.ended (option_map_or (λ found. pad.acted number started (act (pad.with_line number found started))) o started))
     by None = ended_room started fits_none refl
     by (Some found) =
-        let g = f found (begun p.line.end) refl in
-        ended_room (pad.acted number started (act (record { port = found; line = started.line }))) g.0 g.1
+        let g = f (Some number) found (begun p.line.end) refl in
+        ended_room (pad.acted number started (act (pad.with_line number found started))) g.0 g.1
 
 pub key_room : KeyRoom
 key_room p number octet = terminal_room number (port.after_key octet) p
-    (λ q e told. handles_fits (record q { terminal = (port.key_input octet (bare q e)).terminal; idle_left = None }) e told (port.key_input octet (bare q e)).answer (key octet q.terminal.settings.params))
+    (λ t q e told. handles_fits t (record q { terminal = (port.key_input octet (bare t q e)).terminal; idle_left = None }) e told (port.key_input octet (bare t q e)).answer (key octet q.terminal.settings.params))
 
 pub break_room : BreakRoom
 break_room p number = terminal_room number port.after_break p
-    (λ q e told. answers_fit (port.with_terminal (breaks.after_break (line.condition q.call (bare q e).line) q.terminal) q) e told
-    (breaks.is_dropped (line.condition q.call (bare q e).line) q.terminal) (is_connected q.terminal.mode) q.terminal.settings.params (line.condition q.call (bare q e).line))
+    (λ t q e told. answers_fit t (port.with_terminal (breaks.after_break (line.condition q.call (bare t q e).line) q.terminal) q) e told
+    (breaks.is_dropped (line.condition q.call (bare t q e).line) q.terminal) (is_connected q.terminal.mode) q.terminal.settings.params (line.condition q.call (bare t q e).line))
 
 pub print_room : PrintRoom
 print_room p number = terminal_room number port.after_print p
-    (λ q e told. next_fits q.call (port.taken_of (bare q e)) (port.with_terminal (Rattle.pad_terminal.specs.Calls.without_text q.terminal) q) e told)
+    (λ t q e told. next_fits q.call (port.taken_of (bare t q e)) t (port.with_terminal (Rattle.pad_terminal.specs.Calls.without_text q.terminal) q) e told)
 
 pub leaving_room : LeavingRoom
-leaving_room p number = terminal_room number port.after_leaving p (λ q e told. does_fits q e told request.Clear)
+leaving_room p number = terminal_room number port.after_leaving p (λ t q e told. does_fits t q e told request.Clear)
 
 pub arrival_room : ArrivalRoom
-arrival_room p number = terminal_room number port.after_arrival p (λ q e told. (fits_none, told))
+arrival_room p number = terminal_room number port.after_arrival p (λ t q e told. (fits_none, told))
 
 paused_room : (p : PadState) (number : ℕ) → NeedsTwoAtMost (pad.terminal_event number port.after_idle p)
 paused_room p number = terminal_room number port.after_idle p
-    (λ q e told. handles_fits (record q { terminal = (port.idle_input (bare q e)).terminal; idle_left = None }) e told (port.idle_input (bare q e)).answer (idle q.terminal.settings.params))
+    (λ t q e told. handles_fits t (record q { terminal = (port.idle_input (bare t q e)).terminal; idle_left = None }) e told (port.idle_input (bare t q e)).answer (idle q.terminal.settings.params))
 
 nothing_room : (p : PadState) → p.line.notes ≡ [] → NeedsTwoAtMost p
 nothing_room p none room pairs two one = subst (λ (ns : List ChannelNote). HaveRoom ns room pairs) (sym none) tt

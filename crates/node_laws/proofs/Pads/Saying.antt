@@ -9,7 +9,6 @@ use Rattle.x29_messages.specs.MessageForm.{octets_of}
 use Rattle.x29_messages.specs.declared.message.Message.{Message}
 use Rattle.pad_ports.specs.Notes.{ChannelNote}
 use Rattle.pad_ports.specs.Ports as port
-use Rattle.pad_ports.specs.Ports.{PortState, AtLine}
 use Rattle.x25_pad.specs.Pad as pad
 use Rattle.x25_pad.specs.Pad.{PadState}
 use Rattle.node_laws.specs.Pads.Occasions.{Occasion, TookMessage, HadBreak, HadCommand, messages_taken, told_at, all_told, interrupts_at, all_interrupts}
@@ -45,18 +44,14 @@ module _ (f : ChannelNote → Octets) (kind : IsKind f) where
   timer_says (Idle number) p none = idle_says number p none
   timer_says id p none = expiry_says id p none
 
--- a terminal as an event begins
-abbrev at : PortState → PadState → AtLine
-at q p = record { port = q; line = (pad.begun p).line }
-
 pub event_messages : (event : PadEvent) (p : PadState) → p.line.notes ≡ [] → (test : ℕ → Bool) → all_in (message_in test) (after_event event p).line.notes ≡ messages_taken (occasions_of event p test)
 event_messages (HasKey number octet) p none test =
     event_says (message_in test) (messages_kind test) messages_taken refl test number (port.after_key octet) (by_key octet)
-    p (λ q. key_says (message_in test) (messages_kind test) (λ c octets. refl) messages_taken refl refl test octet (at q p))
+    p (λ q. key_says (message_in test) (messages_kind test) (λ c octets. refl) messages_taken refl refl test octet (pad.with_line number q (pad.begun p)))
 event_messages (HasBreak number) p none test =
-    event_says (message_in test) (messages_kind test) messages_taken refl test number port.after_break by_break p (λ q. break_messages test (at q p))
+    event_says (message_in test) (messages_kind test) messages_taken refl test number port.after_break by_break p (λ q. break_messages test (pad.with_line number q (pad.begun p)))
 event_messages (HasPrinting number) p none test =
-    event_says (message_in test) (messages_kind test) messages_taken refl test number port.after_print by_printing p (λ q. print_messages test (at q p))
+    event_says (message_in test) (messages_kind test) messages_taken refl test number port.after_print by_printing p (λ q. print_messages test (pad.with_line number q (pad.begun p)))
 event_messages (HasLeaving number) p none test = leaving_silent (message_in test) (messages_kind test) number p
 event_messages (HasArrival number) p none test = arrival_silent (message_in test) (messages_kind test) number p
 event_messages (HasIdleTime number) p none test = idle_says (message_in test) (messages_kind test) number p none
@@ -69,11 +64,11 @@ event_messages (HasTicks ticks) p none test = nothing_noted (message_in test) p.
 pub event_told : (event : PadEvent) (p : PadState) → p.line.notes ≡ [] → p.line.end.layer.flow.size ≡ 128 → (test : ℕ → Bool) → all_in (told_in test) (after_event event p).line.notes ≡ told_octets (occasions_of event p test)
 event_told (HasKey number octet) p none size test =
     event_says (told_in test) (told_kind test) told_octets refl test number (port.after_key octet) (by_key octet)
-    p (λ q. key_says (told_in test) (told_kind test) (λ c octets. refl) told_octets refl refl test octet (at q p))
+    p (λ q. key_says (told_in test) (told_kind test) (λ c octets. refl) told_octets refl refl test octet (pad.with_line number q (pad.begun p)))
 event_told (HasBreak number) p none size test =
-    event_says (told_in test) (told_kind test) told_octets refl test number port.after_break by_break p (λ q. break_told test (at q p) size)
+    event_says (told_in test) (told_kind test) told_octets refl test number port.after_break by_break p (λ q. break_told test (pad.with_line number q (pad.begun p)) size)
 event_told (HasPrinting number) p none size test =
-    event_says (told_in test) (told_kind test) told_octets refl test number port.after_print by_printing p (λ q. print_told test (at q p) size)
+    event_says (told_in test) (told_kind test) told_octets refl test number port.after_print by_printing p (λ q. print_told test (pad.with_line number q (pad.begun p)) size)
 event_told (HasLeaving number) p none size test = leaving_silent (told_in test) (told_kind test) number p
 event_told (HasArrival number) p none size test = arrival_silent (told_in test) (told_kind test) number p
 event_told (HasIdleTime number) p none size test = idle_says (told_in test) (told_kind test) number p none
@@ -85,11 +80,11 @@ event_told (HasTicks ticks) p none size test = nothing_noted (told_in test) p.li
 
 pub event_interrupts : (event : PadEvent) (p : PadState) → p.line.notes ≡ [] → (test : ℕ → Bool) → all_in (interrupt_in test) (after_event event p).line.notes ≡ all_interrupts (occasions_of event p test)
 event_interrupts (HasKey number octet) p none test =
-    event_says (interrupt_in test) (interrupts_kind test) all_interrupts refl test number (port.after_key octet) (by_key octet) p (λ q. key_interrupts test octet (at q p))
+    event_says (interrupt_in test) (interrupts_kind test) all_interrupts refl test number (port.after_key octet) (by_key octet) p (λ q. key_interrupts test octet (pad.with_line number q (pad.begun p)))
 event_interrupts (HasBreak number) p none test =
-    event_says (interrupt_in test) (interrupts_kind test) all_interrupts refl test number port.after_break by_break p (λ q. break_interrupts test (at q p))
+    event_says (interrupt_in test) (interrupts_kind test) all_interrupts refl test number port.after_break by_break p (λ q. break_interrupts test (pad.with_line number q (pad.begun p)))
 event_interrupts (HasPrinting number) p none test =
-    event_says (interrupt_in test) (interrupts_kind test) all_interrupts refl test number port.after_print by_printing p (λ q. print_interrupts test (at q p))
+    event_says (interrupt_in test) (interrupts_kind test) all_interrupts refl test number port.after_print by_printing p (λ q. print_interrupts test (pad.with_line number q (pad.begun p)))
 event_interrupts (HasLeaving number) p none test = leaving_silent (interrupt_in test) (interrupts_kind test) number p
 event_interrupts (HasArrival number) p none test = arrival_silent (interrupt_in test) (interrupts_kind test) number p
 event_interrupts (HasIdleTime number) p none test = idle_says (interrupt_in test) (interrupts_kind test) number p none

@@ -174,7 +174,7 @@ edits_adds : (step : Step) (block : Option (List ℕ)) (o : Option ℕ) (a : AtL
     → Adds (edit_note (input.Edited block) step o) (port.on_call (port.edits step block) o a).line.notes
 edits_adds step block None a nothing = subst (λ (l : List ChannelNote). Adds [] l) (sym nothing) (adds_none [])
 edits_adds step block (Some call) a nothing =
-    let x : AtLine = record a { line = record a.line { notes = a.line.notes ++ notes.Edited call step ∷ [] } } in
+    let x : AtLine = record a { line = line.noting (notes.Edited call step ∷ []) a.line } in
     subst (λ (l : List ChannelNote). Adds (l ++ notes.Edited call step ∷ []) (port.block_sent block call x).line.notes) nothing (block_adds block call x)
 
 handles_adds : (answer : InputAnswer) (step : Step) (a : AtLine) → a.line.notes ≡ [] → Adds (edit_note answer step a.port.call) (port.handles answer step a).line.notes
@@ -206,9 +206,9 @@ terminal_adds : (number : ℕ) (act : AtLine → AtLine) → ((a : AtLine) → A
 terminal_adds number act f p =
     adds_both [] (at_port number act (pad.begun p)).line.notes _ (by (slice_get p.ports number)) (ended_adds (at_port number act (pad.begun p)))
   where
-    by : (o : Option PortState) → Adds [] (option_map_or (λ found. acted number (pad.begun p) (act (record { port = found; line = (pad.begun p).line }))) o (pad.begun p)).line.notes
+    by : (o : Option PortState) → Adds [] (option_map_or (λ found. acted number (pad.begun p) (act (pad.with_line number found (pad.begun p)))) o (pad.begun p)).line.notes
     by None = adds_none []
-    by (Some q) = f (record { port = q; line = (pad.begun p).line })
+    by (Some q) = f (pad.with_line number q (pad.begun p))
 
 -- what a terminal has as input: its number, how it is answered, the step, and the terminal's call
 pub record Input : Type 0 where
@@ -217,12 +217,12 @@ pub record Input : Type 0 where
   pub step : Step
   pub call : Option ℕ
 
-abbrev pub input_from : (number : ℕ) → (answer : AtLine → InputAnswer) → (step : AtLine → Step) → PadLine → PortState → Input
-input_from number answer step l q =
-    record { terminal = number; answer = answer (record { port = q; line = l }); step = step (record { port = q; line = l }); call = q.call }
+abbrev pub input_from : (number : ℕ) → (answer : AtLine → InputAnswer) → (step : AtLine → Step) → PadState → PortState → Input
+input_from number answer step p q =
+    record { terminal = number; answer = answer (pad.with_line number q p); step = step (pad.with_line number q p); call = q.call }
 
 abbrev pub input_at : (number : ℕ) → (answer : AtLine → InputAnswer) → (step : AtLine → Step) → PadState → Option Input
-input_at number answer step p = option_map_or (λ q. Some (input_from number answer step (pad.begun p).line q)) (slice_get p.ports number) None
+input_at number answer step p = option_map_or (λ q. Some (input_from number answer step (pad.begun p) q)) (slice_get p.ports number) None
 
 abbrev pub key_at : (number octet : ℕ) → PadState → Option Input
 key_at number octet p = input_at number (λ a. (port.key_input octet a).answer) (λ a. key octet a.port.terminal.settings.params) p
@@ -245,10 +245,10 @@ input_adds : (number : ℕ) (act : AtLine → AtLine) (answer : AtLine → Input
 input_adds number act answer step f p =
     adds_both (note_of (input_at number answer step p)) (at_port number act (pad.begun p)).line.notes _ (by (slice_get p.ports number)) (ended_adds (at_port number act (pad.begun p)))
   where
-    by : (o : Option PortState) → Adds (note_of (option_map_or (λ q. Some (input_from number answer step (pad.begun p).line q)) o None))
-        (option_map_or (λ found. acted number (pad.begun p) (act (record { port = found; line = (pad.begun p).line }))) o (pad.begun p)).line.notes
+    by : (o : Option PortState) → Adds (note_of (option_map_or (λ q. Some (input_from number answer step (pad.begun p) q)) o None))
+        (option_map_or (λ found. acted number (pad.begun p) (act (pad.with_line number found (pad.begun p)))) o (pad.begun p)).line.notes
     by None = adds_none []
-    by (Some q) = f (record { port = q; line = (pad.begun p).line }) refl
+    by (Some q) = f (pad.with_line number q (pad.begun p)) refl
 
 no_note : (ns : List ChannelNote) → ns ≡ [] → Adds [] ns
 no_note ns nothing = subst (λ (l : List ChannelNote). Adds [] l) (sym nothing) (adds_none [])

@@ -1,5 +1,5 @@
 -- What happens at a terminal of a PAD: each thing that it asks of the line is written.
-use Rattle.std.specs.Prelude.{◌≡◌, ℕ, Bool, true, false, if◌then◌else◌, ◌&&◌, List, [], ◌∷◌, ◌++◌, Option, Some, None, slice_get, is_some}
+use Rattle.std.specs.Prelude.{◌≡◌, ℕ, Bool, true, false, if◌then◌else◌, ◌&&◌, List, [], ◌∷◌, Option, Some, None, slice_get, is_some}
 use Rattle.std.specs.Option.{option_map_or}
 use Rattle.std.proofs.Common.{refl, sym}
 use Rattle.std.proofs.lemmas.Option.{none-some}
@@ -38,9 +38,9 @@ use Rattle.pad_ports.specs.PadLine as line
 use Rattle.pad_ports.specs.Ports as port
 use Rattle.pad_ports.specs.Ports.{PortState, AtLine}
 use Rattle.pad_ports.specs.PadLine.{PadLine}
-use Rattle.x25_pad.specs.Pad.{PadState, at_port, acted}
+use Rattle.x25_pad.specs.Pad.{PadState, with_line, at_port, acted}
 use Rattle.node_laws.proofs.Pads.Selecting.{Fits, FitsAny, line_fits}
-use Rattle.node_laws.proofs.Pads.Asking.{Runs, sent_runs, cleared_runs, reset_runs, interrupted_runs, placed_runs, edited_runs, taken_runs}
+use Rattle.node_laws.proofs.Pads.Asking.{Runs, named_runs, sent_runs, cleared_runs, reset_runs, interrupted_runs, placed_runs, edited_runs, taken_runs}
 
 -- ---- what is asked can be asked
 
@@ -129,7 +129,7 @@ module _ (s : Setting) (b : Book) (role : Role) (you : PacketEnd) (going coming 
   handles_runs input.Dropped step a fits h = h
   handles_runs (input.Edited block) step a fits h =
       on_call_runs (port.edits step block) a.port.call a
-      (λ call. block_runs block call (record a { line = record a.line { notes = a.line.notes ++ Edited call step ∷ [] } })
+      (λ call. block_runs block call (record a { line = line.noting (Edited call step ∷ []) a.line })
       (edited_runs s b role you going coming call step a.line h)) h
   handles_runs (input.Taken asked) step a fits h = asked_any asked a fits h
 
@@ -222,6 +222,6 @@ module _ (s : Setting) (b : Book) (role : Role) (you : PacketEnd) (going coming 
       → Runs s b role you going coming (at_port number act p).line
   port_runs number act p f h = by (slice_get p.ports number)
     where
-      by : (o : Option PortState) → Runs s b role you going coming (option_map_or (λ found. acted number p (act (record { port = found; line = p.line }))) o p).line
+      by : (o : Option PortState) → Runs s b role you going coming (option_map_or (λ found. acted number p (act (with_line number found p))) o p).line
       by None = h
-      by (Some found) = f (record { port = found; line = p.line }) h
+      by (Some found) = f (with_line number found p) (named_runs s b role you going coming (Some number) p.line h)

@@ -58,16 +58,16 @@ record IsInputOf (event : PadEvent) (p : PadState) (i : Input) : Type 0 where
   call : port.call ≡ i.call
 
 module _ (event : PadEvent) (p : PadState) (number : ℕ) (answer : AtLine → InputAnswer) (step : AtLine → Step) (is : (a : AtLine) → IsInput event number (step a)) where
-  input_there : (i : Input) → option_map_or (λ q. Some (input_from number answer step (pad.begun p).line q)) (slice_get p.ports number) None ≡ Some i → IsInputOf event p i
+  input_there : (i : Input) → option_map_or (λ q. Some (input_from number answer step (pad.begun p) q)) (slice_get p.ports number) None ≡ Some i → IsInputOf event p i
   input_there i at = by (slice_get p.ports number) refl at
     where
-      by : (o : Option PortState) → slice_get p.ports number ≡ o → option_map_or (λ q. Some (input_from number answer step (pad.begun p).line q)) o None ≡ Some i → IsInputOf event p i
+      by : (o : Option PortState) → slice_get p.ports number ≡ o → option_map_or (λ q. Some (input_from number answer step (pad.begun p) q)) o None ≡ Some i → IsInputOf event p i
       by None there e = absurd (none-some i e)
       by (Some q) there e =
-          subst (λ (x : Input). IsInputOf event p x) (same_Some (input_from number answer step (pad.begun p).line q) i e)
-          (record { is = is (record { port = q; line = (pad.begun p).line }); port = q; port_there = there; call = refl })
+          subst (λ (x : Input). IsInputOf event p x) (same_Some (input_from number answer step (pad.begun p) q) i e)
+          (record { is = is (pad.with_line number q (pad.begun p)); port = q; port_there = there; call = refl })
 
-  may_input : (runs : Bool) (i : Input) → (if runs then option_map_or (λ q. Some (input_from number answer step (pad.begun p).line q)) (slice_get p.ports number) None else None) ≡ Some i → IsInputOf event p i
+  may_input : (runs : Bool) (i : Input) → (if runs then option_map_or (λ q. Some (input_from number answer step (pad.begun p) q)) (slice_get p.ports number) None else None) ≡ Some i → IsInputOf event p i
   may_input true i at = input_there i at
   may_input false i at = absurd (none-some i at)
 

@@ -233,11 +233,11 @@ module _ (role : Role) (b : Book) (Others : ℕ → List ℕ → Type 0) where
   places_by : (l : PadLine) (s : Selection) (u : TerminalState) (left : Option ℕ) (o : Option ℕ) (refusal : Option Refusal) → channel_given l.end.layer l.end.layer.phase ≡ o → u.held ≡ [] → has_call u.mode ≡ true → OthersHold l
       → AtHolds (record {
         port = port.placed_on o refusal (record { terminal = u; call = None; idle_left = left });
-        line = record { end = end.called l.end (call_parts s.address s.user_data.items); notes = l.notes ++ line.placed_note o s.address };
+        line = line.noting (line.placed_note o s.address) (record l { end = end.called l.end (call_parts s.address s.user_data.items) });
       })
   places_by l s u left None refusal given none there h =
       let over = ended_is _ u in
-      over_holds (record { end = end.called l.end (call_parts s.address s.user_data.items); notes = l.notes ++ [] }) (calls.cleared (port.refusal_cause refusal) u) left over.0 over.1
+      over_holds (line.noting [] (record l { end = end.called l.end (call_parts s.address s.user_data.items) })) (calls.cleared (port.refusal_cause refusal) u) left over.0 over.1
       (record {
         size = called_same l.end (call_parts s.address s.user_data.items) ∙ h.size;
         read = h.read;
@@ -295,7 +295,7 @@ module _ (role : Role) (b : Book) (Others : ℕ → List ℕ → Type 0) where
 
   -- the step, and the block that it ends, are noted
   abbrev step_line : Step → ℕ → PadLine → PadLine
-  step_line step call l = record l { notes = l.notes ++ notes.Edited call step ∷ [] }
+  step_line step call l = line.noting (notes.Edited call step ∷ []) l
 
   edited_book : (block : Option (List ℕ)) (step : Step) (call : ℕ) (p : PortState) (l : PadLine)
       → ((text : List ℕ) → block ≡ Some text → request_refusal l.end.layer call (Sending (datum text false)) ≡ None)

@@ -23,7 +23,7 @@ use Rattle.pad_ports.specs.PadLine.{interrupt_octet}
 use Rattle.pad_ports.specs.Ports as port
 use Rattle.pad_ports.specs.Ports.{AtLine}
 use Rattle.pad_ports.specs.PadLine.{PadLine}
-use Rattle.x25_pad.specs.Pad.{PadState, begun, terminal_event, after_idle, after_frame, after_timer, after_relink}
+use Rattle.x25_pad.specs.Pad.{PadState, with_line, begun, terminal_event, after_idle, after_frame, after_timer, after_relink}
 use Rattle.x25_pad.specs.Pad.{restarted, elapsed}
 use Rattle.user_nodes.specs.PadWriting.{writes_of}
 use Rattle.node_laws.specs.Pads.Occasions.{Occasion, TookMessage, HadBreak, HadCommand}
@@ -112,7 +112,7 @@ meets test (Some call) = test call
 abbrev pub at_terminal : (number : ℕ) → (test : ℕ → Bool) → (AtLine → List Occasion) → PadState → List Occasion
 at_terminal number test why p =
     option_map_or
-    (λ q. if meets test q.call then why (record { port = q; line = p.line }) else [])
+    (λ q. if meets test q.call then why (with_line number q p) else [])
     (slice_get p.ports number) []
 
 -- nothing else is an occasion

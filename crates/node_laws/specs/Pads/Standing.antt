@@ -9,12 +9,13 @@ use Rattle.call_records.specs.Book.{Book}
 use Rattle.call_records.specs.Writes.{Write, all_written}
 use Rattle.node_laws.specs.LineRecords.Kept.{Setting, Kept, end_at, coming_to}
 use Rattle.node_laws.specs.LineRecords.Happens.{sent, with_event}
+use Rattle.pad_ports.specs.PadLine.{silent_line}
 use Rattle.x25_pad.specs.Pad.{PadState}
 use Rattle.user_nodes.specs.PadWriting.{writes_of}
 
 -- all its notes were read, and all its frames went onto the line
 abbrev pub drained : PadState → PadState
-drained p = record p { line = record { end = sent p.line.end; notes = [] }; noted_at = [] }
+drained p = record p { line = silent_line (sent p.line.end) }
 
 -- it is the node at the end of this role, with nothing left of its last event
 pub record StandsAt (role : Role) (l : Line) (p : PadState) : Type 0 where

@@ -144,7 +144,7 @@ impl Port {
         let Some(channel) = self.call else {
             return;
         };
-        line.notes.add(ChannelNote::Edited {
+        line.note(ChannelNote::Edited {
             channel,
             octet,
             params,
@@ -176,7 +176,7 @@ impl Port {
         let Some(channel) = self.call else {
             return;
         };
-        line.notes.add(ChannelNote::Paused { channel, params });
+        line.note(ChannelNote::Paused { channel, params });
     }
 
     /// Does what the terminal asks for, if anything.

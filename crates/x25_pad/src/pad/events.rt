@@ -12,7 +12,9 @@ ghost use Rattle.x25_pad.specs.Settling.{NothingElseToSettle};
 use crate::pad::Pad;
 use number_set::NumberSet;
 use packet_layer::LayerNote;
-use pad_ports::{ChannelNote, EARLY_NOTES, MOST_NOTES, PadLine, Port, PortNote, TOLD_NOTES};
+use pad_ports::{
+    ChannelNote, EARLY_NOTES, MOST_NOTES, PadLine, PadNote, Port, PortNote, TOLD_NOTES,
+};
 
 impl Pad {
     /// Begins an event: what was not taken of the last one is dropped.
@@ -21,7 +23,7 @@ impl Pad {
     {
         self.line.end.begin();
         self.line.notes.clear();
-        self.noted_at.clear();
+        self.line.terminal = None;
     }
 
     /// Ends an event that came from the line: the terminals learn what became of their calls, and a call that came in is
@@ -99,9 +101,11 @@ impl Pad {
         };
         let last = last_call(incoming, &note);
         let terminal = terminal_with(self.ports.as_slice(), about(&note));
-        self.noted_at.add(terminal);
         tell(&mut self.ports, &mut self.touched, &note);
-        self.line.notes.add(ChannelNote::Told(note));
+        self.line.notes.add(PadNote {
+            terminal,
+            note: ChannelNote::Told(note),
+        });
         last
     }
 
@@ -123,15 +127,14 @@ impl Pad {
             return;
         };
         let Some(number) = self.first_free() else {
+            self.line.at_terminal(None);
             self.line.clear(channel);
-            self.noted_at.fill(None, self.line.notes.len());
             return;
         };
+        self.line.at_terminal(Some(number as u8));
         self.line.accept(channel);
         self.touched.insert(number);
         self.ports[number].connect(channel);
-        self.noted_at
-            .fill(Some(number as u8), self.line.notes.len());
     }
 
     /// The terminals may go on, and their idle timers run as they want them.

@@ -1,5 +1,5 @@
 //! What comes from the line and what goes to it.
-ghost use Rattle.std.specs.Prelude.{◌≡◌, ◌≤◌, ◌∷◌, [], length};
+ghost use Rattle.std.specs.Prelude.{◌≡◌, ◌∷◌, []};
 ghost use Rattle.std.specs.Bool.{OnTrue, OnFalse};
 ghost use Rattle.packet_end.specs.PacketEnd as end;
 ghost use Rattle.packet_layer.specs.LayerTimers.{TimersAgree};
@@ -7,7 +7,7 @@ ghost use Rattle.x25_pad.specs.Pad as spec;
 ghost use Rattle.x25_pad.specs.Sending.{frames_on_frame, frames_on_relink};
 
 use crate::pad::Pad;
-use packet_end::{FrameBuf, MOST_FRAMES};
+use packet_end::FrameBuf;
 
 impl Pad {
     /// Takes the octets of a received frame (X.25 2.4, 3 to 5). The terminals learn what becomes of their calls. A call
@@ -44,21 +44,5 @@ impl Pad {
         ensures pad { self.new ≡ spec.with_end (end.without_first_frame self.old.line.end) self.old }
     {
         self.line.end.out(frame)
-    }
-
-    /// How many frames wait to be taken, at most [`MOST_FRAMES`].
-    pub fn waiting_frames(&self) -> usize
-        ensures count { result ≡ length self.now.line.end.line.frames }
-        ensures most { result ≤ MOST_FRAMES }
-    {
-        self.line.end.waiting_frames()
-    }
-
-    /// Whether the link is up with nothing unacknowledged and nothing to be said, no packet is owed, and nothing waits
-    /// to be sent or taken on any channel. Text of terminals does not count.
-    pub fn is_at_rest(&self) -> bool
-        ensures { result ≡ end.at_rest self.now.line.end }
-    {
-        self.line.end.is_at_rest()
     }
 }

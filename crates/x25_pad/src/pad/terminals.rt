@@ -94,10 +94,9 @@ impl Pad {
         ensures told { self.new.line.end.notes ≡ self.old.line.end.notes }
     {
         let number = usize::from(terminal);
+        self.line.at_terminal(Some(terminal));
         self.touched.insert(number);
-        let taken = self.ports[number].press(octet, &mut self.line);
-        self.noted_at.fill(Some(terminal), self.line.notes.len());
-        taken
+        self.ports[number].press(octet, &mut self.line)
     }
 
     /// What a break does at its terminal.
@@ -110,10 +109,9 @@ impl Pad {
         ensures told { self.new.line.end.notes ≡ self.old.line.end.notes }
     {
         let number = usize::from(terminal);
+        self.line.at_terminal(Some(terminal));
         self.touched.insert(number);
-        let taken = self.ports[number].break_in(&mut self.line);
-        self.noted_at.fill(Some(terminal), self.line.notes.len());
-        taken
+        self.ports[number].break_in(&mut self.line)
     }
 
     /// What leaving does at a terminal.
@@ -125,9 +123,9 @@ impl Pad {
         ensures told { self.new.line.end.notes ≡ self.old.line.end.notes }
     {
         let number = usize::from(terminal);
+        self.line.at_terminal(Some(terminal));
         self.touched.insert(number);
         self.ports[number].leave(&mut self.line);
-        self.noted_at.fill(Some(terminal), self.line.notes.len());
     }
 
     /// What arriving does at a terminal.
@@ -138,6 +136,7 @@ impl Pad {
         ensures told { self.new.line.end.notes ≡ self.old.line.end.notes }
     {
         let number = usize::from(terminal);
+        self.line.at_terminal(Some(terminal));
         self.touched.insert(number);
         self.ports[number].arrive();
     }
@@ -183,10 +182,9 @@ impl Pad {
         ensures told { self.new.line.end.notes ≡ self.old.line.end.notes }
     {
         let number = usize::from(terminal);
+        self.line.at_terminal(Some(terminal));
         self.touched.insert(number);
-        let taken = self.ports[number].pause(&mut self.line);
-        self.noted_at.fill(Some(terminal), self.line.notes.len());
-        taken
+        self.ports[number].pause(&mut self.line)
     }
 
     /// Whether a terminal has anything to show: text, or what waits first on its call and may be shown now. If not,
@@ -237,10 +235,9 @@ impl Pad {
         ensures told { self.new.line.end.notes ≡ self.old.line.end.notes }
     {
         let number = usize::from(terminal);
+        self.line.at_terminal(Some(terminal));
         self.touched.insert(number);
-        let taken = self.ports[number].print(&mut self.line, out);
-        self.noted_at.fill(Some(terminal), self.line.notes.len());
-        taken
+        self.ports[number].print(&mut self.line, out)
     }
 
     /// Takes an expiry of a timer of the line or of a terminal's idle timer, and answers whether it ran. If it did not,
@@ -332,7 +329,7 @@ impl Pad {
     {
         self.line.end.restart();
         self.line.notes.clear();
-        self.noted_at.clear();
+        self.line.terminal = None;
         self.restart_terminals();
     }
 

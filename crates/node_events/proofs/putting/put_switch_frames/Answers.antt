@@ -1,6 +1,6 @@
-use Rattle.std.proofs.Common.{◌≡◌, ◌<◌, [], length, refl, ap, ◌∙◌, subst, arith}
+use Rattle.std.proofs.Common.{◌≡◌, ◌<◌, [], length, slice_get, refl, ap, ◌∙◌, subst, arith}
 use Rattle.std.proofs.lemmas.List.{length_push}
-use Rattle.switch_lines.specs.Switch.{Switch, with_end}
+use Rattle.switch_lines.specs.Switch.{Switch, with_end, frames_on}
 use Rattle.packet_end.specs.PacketEnd.{without_first_frame}
 use Rattle.frame_lines.specs.declared.line.Direction.{Direction}
 use Rattle.net_events.specs.OneLine.{direction_of}
@@ -15,7 +15,9 @@ loop-init g c = record {
   putting = putting_begins g.L.Line.service c.args.number c.direction_of-direction.result (waiting_on c.args.own c.args.switch.now) (g.L.Line.flights c.args.line.now) c.args.puts.now.items;
   switch_is = left_begins c.args.own c.args.switch.now;
   there = c.requires.there;
-  left = omega (arith, c.waiting_frames-end.ensures.count);
+  left =
+      let same = ap (λ lines. length (frames_on (slice_get lines c.args.own))) c.deref.ensures in
+      omega (arith, c.waiting_frames-end.ensures.count, same);
   most = c.waiting_frames-end.ensures.most;
   put = omega arith;
   room = c.requires.room;

@@ -1,7 +1,8 @@
-use Rattle.std.proofs.Common.{◌≡◌, ◌<◌, suc, false, length, slice_get, Some, refl, sym, ap, ◌∙◌, arith}
+use Rattle.std.proofs.Common.{◌≡◌, ◌<◌, suc, false, length, slice_get, Some, refl, sym, ap, ◌∙◌, subst, arith}
 use Rattle.std.specs.Prelude.{unwrap_or, ◌++◌}
 use Rattle.switch_lines.specs.Lines.{changed}
 use Rattle.switch_lines.specs.Switch.{Switch, frames_on}
+use Rattle.switch_lines.specs.Touched.{AreThere, HasAllFrames}
 use Rattle.net_events.specs.AtSwitch.{waiting_on, line_drained}
 use Rattle.net_events.specs.Network.{own_role}
 use Rattle.net_events.specs.OneLine.{direction_of}
@@ -16,7 +17,8 @@ loop-at-init g c = record {
   put = (
     0,
     none_put g.L.Line.service c.args.own.now c.args.switch.now c.with_frames-waiting.result c.args.puts.now.items _ c.args.lines.now.items
-        c.with_frames-waiting.ensures.there c.with_frames-waiting.ensures.others c.requires.room.empty
+        (subst (AreThere c.with_frames-waiting.result) c.deref.ensures c.with_frames-waiting.ensures.there)
+        (subst (HasAllFrames c.with_frames-waiting.result) c.deref.ensures c.with_frames-waiting.ensures.others) c.requires.room.empty
         (let none = ap length c.requires.room.empty in omega (arith, none)),
   );
   capacity = refl;

@@ -10,7 +10,7 @@ invariant-loop-note l = record {
   pad : without_notes l.pad ≡ without_notes l.fn.pad;
   book : all_written l.at.role (writes_of l.pad.line.notes) l.book.book ≡ all_written l.at.role (writes_of l.fn.pad.line.notes) l.fn.book.book;
   room : HaveRoom l.pad.line.notes l.book.room l.book.pairs;
-  listed : l.notes.items ++ user_notes l.at.node (at_pad l.pad.noted_at l.pad.line.notes) ≡ user_notes l.at.node (at_pad l.fn.pad.noted_at l.fn.pad.line.notes);
+  listed : l.notes.items ++ user_notes l.at.node (at_pad l.pad.line.noted_at l.pad.line.notes) ≡ user_notes l.at.node (at_pad l.fn.pad.line.noted_at l.fn.pad.line.notes);
   places : vec_len l.notes + length l.pad.line.notes ≤ vec_capacity l.notes;
   kept : vec_capacity l.notes ≡ vec_capacity l.fn.notes;
 }

@@ -1,4 +1,4 @@
-use Rattle.std.proofs.Common.{◌≡◌, ◌∙◌, ◌<◌, ◌-◌, ℕ, List, true, false, length, take, drop, sym, ap, arith, length-drop}
+use Rattle.std.proofs.Common.{◌≡◌, ◌∙◌, ◌<◌, ℕ, List, true, false, length, take, drop, sym, ap, arith, length-drop}
 use Rattle.data_transfer.specs.Cutting.{cut}
 use Rattle.data_transfer.proofs.Pieces.{some_full, one_full, cut_more, full_of}
 use Rattle.data_transfer.specs.Packets.{Datum}

@@ -19,12 +19,12 @@ returns c =
     let here = c.of-here.ensures rs ps in
     let new = map shown c.push_reserved.new.self.items in
     let node = c.node-node.ensures ∙ ap (λ (s : Side). s.node) here in
-    let own = c.address-own.ensures ∙ ap (λ (s : Side). address_of s.address) here in
+    let own = c.address.ensures ∙ ap (λ (s : Side). address_of s.address) here in
     let number : c.len-number.result ≡ length a.records.items = omega (arith, c.len-number.ensures, a.records.ok) in
     let more = shown_more a.records.items c.push_reserved.new.self.items c.new.result c.push_reserved.ensures.items in
     let grown = more ∙ ap (λ (r : RecordValue). rs ++ r ∷ []) c.new.ensures.shown in
     ap (with_pairs a.pair_room) (places_is a c.args.role c.args.channel c.args.called.now new c.put.new.self c.len-number.result c.node-node.result
-    c.address-own.result c.recorded-far.result (number ∙ shown_length a.records.items) node own c.recorded-far.ensures grown (c.put.ensures new ps))
+    c.address.result c.recorded.result (number ∙ shown_length a.records.items) node own c.recorded.ensures grown (c.put.ensures new ps))
     ∙ ap (λ (s : BookState). with_pairs s.pairs (places c.args.role c.args.channel c.args.called.now s.book)) c.self.view_is
 
 pub invariant_of-self : goal.invariant_of-self

@@ -48,13 +48,13 @@ pub switch_acts-requires-clause-can : goal.switch_acts-requires-clause-can
 switch_acts-requires-clause-can g c =
     let o = c.requires.switch in
     let st = subst IsStanding (sym c.self.view_is) c.requires.standing in
-    let node_there = ap (λ (s : Network). slice_get s.nodes c.args.place) c.self.view_is ∙ o.node_there in
-    can_hear _ c.args.own c.as_slice.result.now _ _ _ _ c.frame_heard-event.ensures.event
+    let node_there = ap (λ (s : Network). slice_get s.nodes c.args.at.place) c.self.view_is ∙ o.node_there in
+    can_hear _ c.args.at.own c.as_slice.result.now _ _ _ _ c.frame_heard-event.ensures.event
     (record {
       switch = o.node;
       there = node_there;
-      has_line = (own_within c.args.place c.args.own c.args.line o.node c.args.self.now c.requires.standing o.node_there o.own_line, c.frame_heard-event.ensures.octets);
-      can_put = can_switch c.args.place _ o.node _ c.make_switch_room.new.answer.frames.items _ st node_there (length_set c.self.inside.lines.items c.args.line _)
+      has_line = (own_within c.args.at.place c.args.at.own c.args.line o.node c.args.self.now c.requires.standing o.node_there o.own_line, c.frame_heard-event.ensures.octets);
+      can_put = can_switch c.args.at.place _ o.node _ c.make_switch_room.new.answer.frames.items _ st node_there (length_set c.self.inside.lines.items c.args.line _)
           (c.in_ok-make_switch_room.ensures.room o.node o.node_there);
     })
 
@@ -64,12 +64,12 @@ returns-clause-done g c =
     let s : Network = record { nodes = c.self.inside.nodes.items; lines = c.self.inside.lines.items; register = register_of c.self.inside.register } in
     let lines = c.self.inside.lines.items in
     let st = subst IsStanding (sym c.self.view_is) c.requires.standing in
-    let o = subst (IsOwnLine c.args.line c.args.place c.args.own (hearer c.args.direction)) (sym c.self.view_is) c.requires.switch in
+    let o = subst (IsOwnLine c.args.line c.args.at.place c.args.at.own (hearer c.args.direction)) (sym c.self.view_is) c.requires.switch in
     let h : c.args.line < length lines = within lines c.args.line o.line_is o.line_there in
     let here = there lines c.args.line _ c.index_mut.result.now h c.index_mut.ensures.value ∙ ap Some (sym c.behind-self.view_is) in
     rw (← c.self.view_is)
     (answered c.switch_acts.result c.switch_acts.new.answer (λ x. Happens L (Deliver c.args.line c.args.direction) s x c.switch_acts.new.self) (c.switch_acts.ensures.done o.node o.node_there)
-    (λ w. heard L c.args.place c.args.line c.args.own c.args.direction c.as_slice.result.now _ (g.L.Line.flights c.take.new.self) _ c.switch_acts.new.answer c.switch_acts.new.self st o here
+    (λ w. heard L c.args.at.place c.args.line c.args.at.own c.args.direction c.as_slice.result.now _ (g.L.Line.flights c.take.new.self) _ c.switch_acts.new.answer c.switch_acts.new.self st o here
     (λ f. (OnTrue_at c.if-not-take.false (c.take.ensures.taken f) ∙ ap Some (sym c.as_slice.ensures.value), c.take.ensures.others f))
     c.frame_heard-event.ensures.octets
     _ c.frame_heard-event.ensures.event w))

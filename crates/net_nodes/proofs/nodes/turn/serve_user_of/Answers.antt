@@ -16,9 +16,8 @@ serve_user-requires-clause-quiet g c =
 
 pub returns-clause-served : goal.returns-clause-served
 returns-clause-served g c =
-    rw (← c.net_line.view_is)
-    (λ n is.
+    λ n is.
     let p : PlacedNode = record { line = c.in-User.line; node = node_of c.in-User.node } in
     let same : p ≡ n = user_is p n (ap kind_of (sym c.in-User.is) ∙ c.node.view_is ∙ is) in
-    user_served g.L.Line.service c.args.at (user_event_of c.args.event.now) (user_fault c.net_line.inside.channels c.args.event.now) p n _ (register_of c.args.register.now)
-    (result_and c.serve_user.result (Ok c.serve_user.new.answer)) (node_of c.serve_user.new.node) (g.L.Line.flights c.serve_user.new.line) (register_of c.serve_user.new.register) same c.serve_user.ensures.served)
+    user_served g.L.Line.service c.args.at (user_event_of c.args.event.now) (user_fault c.args.net_line.now.channels c.args.event.now) p n _ (register_of c.args.register.now)
+    (result_and c.serve_user.result (Ok c.serve_user.new.answer)) (node_of c.serve_user.new.node) c.serve_user.new.net_line.flights (register_of c.serve_user.new.register) same c.serve_user.ensures.served

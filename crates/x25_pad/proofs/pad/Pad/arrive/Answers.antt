@@ -1,19 +1,17 @@
--- What happens at a port, of which nothing is noted.
-use Rattle.std.proofs.Common.{length, refl, Some, ap, arith}
-use Rattle.std.proofs.lemmas.Grind.{common_steps}
+-- What happens at a port.
+use Rattle.std.proofs.Common.{length, ap, arith, refl}
 use Rattle.pad_ports.specs.Ports as port
 use Rattle.x25_pad.specs.Pad.{PadState}
 use Rattle.x25_pad.specs.PadView.{pad_of}
-use Rattle.x25_pad.proofs.Acting.{acts_at, none_unnamed}
+use Rattle.x25_pad.proofs.Acting.{acts_at}
 use Rattle.x25_pad.proofs.Settling.{one_touched, count_written}
 use Rattle.x25_pad.proofs.pad.Pad.arrive.Goals as goal
 
 pub returns-clause-pad : goal.returns-clause-pad
 returns-clause-pad c =
-    let p : PadState = pad_of c.self.inside in
-    acts_at port.after_arrival p c.args.self.now c.args.terminal c.from-number.result (length p.line.notes) c.index_mut.result.now
-    c.arrive.new.self p.line p.noted_at c.self.view_is c.from-number.ensures c.requires c.index_mut.ensures.value
-    c.arrive.ensures refl refl (none_unnamed p (Some c.args.terminal) c.self.invariant.named)
+    acts_at port.after_arrival (pad_of c.self.inside) c.args.self.now c.args.terminal c.from-number.result c.index_mut.result.now
+    c.arrive.new.self c.at_terminal.new.self c.at_terminal.new.self c.self.view_is c.from-number.ensures c.requires
+    c.index_mut.ensures.value c.at_terminal.ensures c.arrive.ensures refl
 
 pub invariant_of-self : goal.invariant_of-self
 invariant_of-self c =
@@ -22,7 +20,6 @@ invariant_of-self c =
     let count = count_written ports c.from-number.result c.arrive.new.self in
     record {
       most = omega (arith, c.self.invariant.most, count);
-      named = grind (arith, common_steps);
       rest = one_touched c.self.inside.touched c.insert.new.self c.from-number.result ports c.arrive.new.self c.insert.ensures
           (omega (arith, has, c.requires, c.from-number.ensures)) c.self.invariant.rest;
     }

@@ -18,7 +18,6 @@ invariant_of-self c =
     let whole : (with_items c.self.inside.ports c.loop-port.port-items).items ≡ c.loop-port.port-items = grind (arith, common_steps) in
     record {
       most = grind (arith, common_steps);
-      named = c.self.invariant.named;
       rest = same_rest c.self.inside.touched _ _ whole
           (all_done c.self.inside.touched (elapsed c.args.ticks) c.deref_mut-port-items.result.now c.loop-port.port-items c.loop-port.port-index
           (elapsed_settled c.args.ticks) (omega (arith, c.loop-port-test.false)) c.loop-port.invariant

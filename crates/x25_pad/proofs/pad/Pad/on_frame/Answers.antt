@@ -5,6 +5,7 @@ use Rattle.packet_end.specs.PacketEnd as end
 use Rattle.packet_end.specs.PacketEnd.{PacketEnd}
 use Rattle.packet_end.proofs.Sizes.{received_same}
 use Rattle.x25_pad.specs.Pad as spec
+use Rattle.pad_ports.specs.LineView.{line_of}
 use Rattle.x25_pad.specs.Pad.{PadState}
 use Rattle.x25_pad.specs.PadView.{pad_of}
 use Rattle.x25_pad.specs.declared.pad.Pad.TheInside.{Inside}
@@ -20,7 +21,7 @@ invariant_of-self-inside c =
 pub returns-clause-frames : goal.returns-clause-frames
 returns-clause-frames c =
     let x = c.self-inside.inside in
-    let p : PadState = record { line = record { end = x.0.0.end; notes = x.0.0.notes }; ports = x.0.1.0.items; noted_at = x.0.1.1.0 } in
+    let p : PadState = record { line = line_of x.0.0; ports = x.0.1.0.items } in
     let opened : p ≡ pad_of c.self.inside = ap (λ (a : Inside). pad_of a) c.self-inside.view_is in
     frame_whole c.args.self.now (spec.with_end c.on_frame.new.self p) c.end_line_event.new.self c.args.octets.now
     (ap (λ (e : PacketEnd). spec.with_end e p) c.on_frame.ensures.end
