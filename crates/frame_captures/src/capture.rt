@@ -1,5 +1,5 @@
 //! A capture, file by file.
-ghost use Rattle.std.specs.Prelude.{◌≡◌, ◌≤◌, [], length, take, drop, IfOk};
+ghost use Rattle.std.specs.Prelude.{◌≡◌, drop, IfOk};
 ghost use Rattle.frame_captures.specs.Capture.{new_capture, begun, is_full, takes, with_frame};
 
 use crate::blocks::{add_frame, add_head};
@@ -8,13 +8,15 @@ use frame_lines::Direction;
 use itoa::Buffer;
 use octet_rings::OctetRing;
 use std::alloc::{AllocError, Global};
+use std::ops::Deref;
 
 /// The most octets that the block of a frame has.
 const MOST_BLOCK: usize = 1104;
 
 /// Frames as they pass, as the octets of files that Wireshark reads as LAPB and what is above it (pcapng). Each frame is a
 /// block with its line, its direction and its time. Blocks are whole, and a frame without room for its block is counted as
-/// lost. A file is full once it has `size` octets, and the next one begins with a head of its own.
+/// lost. A file is full once it has `size` octets, and the next one begins with a head of its own. What asks about the
+/// octets that wait to be written, without a change, is a call of [`OctetRing`].
 #[derive(Drop)]
 pub struct Capture {
     size: u64,
@@ -22,6 +24,16 @@ pub struct Capture {
     octets: u64,
     lost: u64,
     waiting: OctetRing,
+}
+
+impl Deref for Capture {
+    type Target = OctetRing;
+
+    fn deref(&self) -> &OctetRing
+        ensures { result.now ≡ self.now.waiting }
+    {
+        &self.waiting
+    }
 }
 
 impl Capture {
@@ -85,14 +97,6 @@ impl Capture {
         ensures { result ≡ self.now.lost }
     {
         self.lost
-    }
-
-    /// Octets that wait to be written to the file, from the first on: some if there are any, and not always all.
-    pub fn waiting(&self) -> &[u8]
-        ensures front { take (length result.now) self.now.waiting ≡ result.now }
-        ensures some { length result.now ≡ 0 → self.now.waiting ≡ [] }
-    {
-        self.waiting.waiting()
     }
 
     /// Drops the first `count` octets that wait, which were written; all, if there are fewer.

@@ -14,8 +14,8 @@ use Rattle.service.specs.declared.bridges.BridgePort.{BridgePort}
 use Rattle.service.specs.declared.place.Place.{Place}
 use Rattle.service.specs.declared.terminal.Terminal.{Terminal}
 use Rattle.service.specs.Places.{AreApart}
-use Rattle.service.specs.Steps.{Step, Steps, HasTried, AreIdle, IsSilent, Does, PassesBy, Passes, is_at_terminal}
-use Rattle.service.specs.Serving.{IsServed, Wishes, Serves, WorksBy, ServesBelow, DeliversBelow, Expires, NoneIsDue, is_expiry, Rests, Works}
+use Rattle.service.specs.Steps.{Step, HasTried, Does, PassesBy, Passes, is_at_terminal}
+use Rattle.service.specs.Serving.{IsServed, Wishes, Serves, WorksBy, ServesBelow, DeliversBelow, Expires, NoneIsDue, is_expiry, Works}
 use Rattle.service.proofs.Stepping.{steps-append, silent-none, idle-append, aside-append, expiry_aside, tried-left, tried-right, tried_step, neither_left, neither_right, passes_by-then, passes_step}
 use Rattle.service.specs.AllBridges.{AreOnOwnChannels, AreBridged, ServesBridges, WorksForAll}
 use Rattle.service.proofs.Served.{served_silent, served_then}

@@ -1,5 +1,5 @@
 -- What the steps for a bridge carry.
-use Rattle.std.proofs.Common.{◌≡◌, ◌≢◌, ◌⊎◌, ◌+◌, ◌<◌, ◌≤◌, ℕ, Bool, true, false, List, [], ◌∷◌, ◌++◌, refl, sym, ap, ◌∙◌, subst, append_assoc, append-nil, cond, eqb, take, drop, length, min, Result, Ok, Err, Option, Some, None, not, ◌&&◌, ◌||◌, flat_map, arith}
+use Rattle.std.proofs.Common.{◌≡◌, ◌≢◌, ◌+◌, ◌≤◌, ℕ, Bool, true, false, List, [], ◌∷◌, ◌++◌, refl, sym, ap, ◌∙◌, subst, append_assoc, append-nil, cond, eqb, take, length, Result, Ok, Err, Option, Some, None, not, ◌&&◌, ◌||◌, flat_map, arith}
 use Rattle.std.specs.List.{list_all}
 use Rattle.std.specs.Bool.{OnTrue}
 use Rattle.std.specs.Prelude.{IfSome}
@@ -11,12 +11,11 @@ use Rattle.std.proofs.lemmas.List.Folds.{list_all-append}
 use Rattle.std.proofs.lemmas.List.{length-take, take_min}
 use Rattle.bridge_ports.specs.declared.phases.Phases.{Phases}
 use Rattle.bridge_ports.specs.Bridges.{BridgeState, said, taken}
-use Rattle.bridge_ports.specs.Laws.{Deed, hears, says, takes, writes, turns, after_deed, after_deeds, all_by, said_by}
+use Rattle.bridge_ports.specs.Laws.{Deed, says, takes, turns, after_deed, after_deeds, all_by, said_by}
 use Rattle.frame_lines.specs.Lines.{LineService}
 use Rattle.packet_host.specs.declared.request.HostRequest.{HostRequest}
-use Rattle.packet_host.specs.declared.request.HostRequest.TheVariants.{Say}
 use Rattle.net_events.specs.declared.event.Event.{Event}
-use Rattle.net_events.specs.declared.event.Event.TheVariants.{Ask, Take, Call}
+use Rattle.net_events.specs.declared.event.Event.TheVariants.{Ask, Take}
 use Rattle.net_events.specs.declared.event.StepFault.{StepFault}
 use Rattle.net_events.specs.declared.answer.Answer.{Answer}
 use Rattle.net_process.specs.Process.{ProcessState}
@@ -26,9 +25,9 @@ use Rattle.service.specs.declared.service.Order.{Order}
 use Rattle.service.specs.declared.terminal.Terminal.{Terminal}
 use Rattle.service.specs.Orders.{ordered_at, after_order, port_of, IsFrom}
 use Rattle.service.specs.Terminals.{changed, changed_at, ordered}
-use Rattle.service.specs.Steps.{Step, Makes, Steps, is_idle, is_idle_answer, is_at_terminal, AreIdle, Does, PassesBy, Passes}
-use Rattle.service.specs.Bridging.{Packet, is_on, said_of, said_in, packet_of, packet_in, packet_from, taken_in, with_packets, all_said, all_taken, IsStill, is_of_network, packets_by, IsCarried, Carries, PassesAt}
-use Rattle.service.proofs.Stepping.{steps-append, silent-none, passes_none, passes_by-then, passes_step, neither_left, neither_right, was_done, not_done, elsewhere, idle_step, Lent}
+use Rattle.service.specs.Steps.{Step, Makes, is_idle, is_idle_answer, is_at_terminal, Does, PassesBy}
+use Rattle.service.specs.Bridging.{Packet, is_on, said_of, said_in, packet_in, packet_from, taken_in, with_packets, all_said, all_taken, IsStill, is_of_network, packets_by, IsCarried, Carries, PassesAt}
+use Rattle.service.proofs.Stepping.{silent-none, passes_by-then, passes_step, neither_left, neither_right, was_done, not_done, elsewhere, Lent}
 
 -- ---- channels
 

@@ -1,9 +1,9 @@
 -- What is done at the port of a client, from when it came.
-use Rattle.std.proofs.Common.{◌≡◌, ◌+◌, ◌*◌, ℕ, Bool, true, false, List, [], ◌∷◌, ◌++◌, refl, sym, ap, ◌∙◌, subst, append-nil, cond, take, drop, length, Some, ◌-◌, ◌&&◌, ◌==◌}
+use Rattle.std.proofs.Common.{◌≡◌, ◌+◌, ℕ, Bool, true, false, List, [], ◌∷◌, ◌++◌, refl, sym, ap, ◌∙◌, subst, append-nil, cond, take, drop, length, Some, ◌-◌, ◌&&◌, ◌==◌}
 use Rattle.std.specs.Prelude.{nat_le, nat_lt}
 use Rattle.service_ports.specs.declared.command.TelnetCommand.TheVariants.{NoOperation}
-use Rattle.service_ports.specs.declared.mode.Mode.{Mode}
-use Rattle.service_ports.specs.declared.mode.Mode.TheVariants.{Telnet, Raw}
+use Rattle.service_ports.specs.declared.mode.PortMode.{PortMode}
+use Rattle.service_ports.specs.declared.mode.PortMode.TheVariants.{Telnet, Raw}
 use Rattle.service_ports.specs.Modes.{is_telnet, with_shown}
 use Rattle.service_ports.specs.Ports.{PortState, begun, first_output, after_octets}
 use Rattle.service_ports.specs.Reading.{new_reader}
@@ -15,24 +15,24 @@ use Rattle.service.specs.declared.terminal.Presence.TheVariants.{Gone}
 use Rattle.service.specs.declared.terminal.Terminal.{Terminal}
 use Rattle.service.specs.declared.terminal.Terms.{Terms}
 use Rattle.service.specs.declared.terminal.TheConstants.{SILENT}
-use Rattle.service.specs.Terminals.{aged, attached, dismissed, elapsed_in, ended, has_client, has_room, heard, is_closing, is_ending, is_open, is_too_silent, kept_alive, left, left_if_written, ordered, told_silent, waited, with_shown_at, written}
+use Rattle.service.specs.Terminals.{aged, attached, dismissed, elapsed_in, ended, has_client, has_room, heard, is_closing, is_ending, is_open, is_too_silent, kept_alive, left, left_if_written, ordered, told_silent, with_shown_at, written}
 use Rattle.service.specs.Steps.{Step, shown, typed}
 use Rattle.service.specs.Serving.{Fate, Befall, IsServed}
-use Rattle.service.specs.Clients.{Deed, works, hears, writes, waits, ends, orders, Did, History, steps_in, heard_in, written_in, told_in, shown_in, all_steps, all_heard, all_written, all_shown, IsClientServed, ClientsAreServed}
+use Rattle.service.specs.Clients.{Deed, works, hears, writes, waits, ends, orders, Did, History, steps_in, heard_in, written_in, told_in, shown_in, all_steps, all_heard, all_written, all_shown, ClientsAreServed}
 use Rattle.service.proofs.Keys.{befall-then, befall-more}
 use Rattle.service.proofs.Stepping.{typed-append}
 use Rattle.service.proofs.Heard.{reader_from, reader_from-append, keys_from, keys_from-append, keys_of_mode, answers_from, tells_all, has_heard, IsRead, read_nothing, read_text, read_answers, read_command, read_written, text_of_mode}
 use Rattle.service_ports.specs.ClientForm.{with_items}
 
 -- what holds of a port after some of what is done: the steps, what was written, heard and shown
-pub record SoFar (at : Place) (mode : Mode) (has_xon : Bool) (steps : List Step) (out input seen : List ℕ) (port : PortState) : Type 0 where
+pub record SoFar (at : Place) (mode : PortMode) (has_xon : Bool) (steps : List Step) (out input seen : List ℕ) (port : PortState) : Type 0 where
   pub mode_is : port.mode ≡ mode
   pub reads : IsRead mode out port.output seen
   pub reader : port.reader ≡ reader_from mode new_reader input
   pub fates : List Fate
   pub keys : Befall has_xon fates (keys_from mode new_reader input) (typed at steps) port.keys.items
 
-so_far_at : (at : Place) (mode : Mode) (has_xon : Bool) (steps steps_now : List Step) (out out_now input input_now seen seen_now : List ℕ) (port now : PortState)
+so_far_at : (at : Place) (mode : PortMode) (has_xon : Bool) (steps steps_now : List Step) (out out_now input input_now seen seen_now : List ℕ) (port now : PortState)
     → steps ≡ steps_now → out ≡ out_now → input ≡ input_now → seen ≡ seen_now → port ≡ now
     → SoFar at mode has_xon steps out input seen port → SoFar at mode has_xon steps_now out_now input_now seen_now now
 so_far_at at mode has_xon steps steps_now out out_now input input_now seen seen_now port now a b c d e so_far =
@@ -43,14 +43,14 @@ so_far_at at mode has_xon steps steps_now out out_now input input_now seen seen_
     (subst (λ (r : PortState). SoFar at mode has_xon steps out input seen r) e so_far))))
 
 -- nothing is done at the port
-so_far_same : (at : Place) (mode : Mode) (has_xon : Bool) (steps : List Step) (out input seen : List ℕ) (port now : PortState) → now ≡ port
+so_far_same : (at : Place) (mode : PortMode) (has_xon : Bool) (steps : List Step) (out input seen : List ℕ) (port now : PortState) → now ≡ port
     → SoFar at mode has_xon steps out input seen port → SoFar at mode has_xon (steps ++ []) (out ++ []) (input ++ []) (seen ++ []) now
 so_far_same at mode has_xon steps out input seen port now is so_far =
     so_far_at at mode has_xon steps (steps ++ []) out (out ++ []) input (input ++ []) seen (seen ++ []) port now
     (sym (append-nil steps)) (sym (append-nil out)) (sym (append-nil input)) (sym (append-nil seen)) (sym is) so_far
 
 -- only the output changes, and this is read of it
-so_far_told : (at : Place) (mode : Mode) (has_xon : Bool) (steps : List Step) (out input seen text : List ℕ) (port now : PortState) (o : Output)
+so_far_told : (at : Place) (mode : PortMode) (has_xon : Bool) (steps : List Step) (out input seen text : List ℕ) (port now : PortState) (o : Output)
     → now ≡ record port { output = o } → IsRead mode out o (seen ++ text)
     → SoFar at mode has_xon steps out input seen port → SoFar at mode has_xon (steps ++ []) (out ++ []) (input ++ []) (seen ++ text) now
 so_far_told at mode has_xon steps out input seen text port now o is read so_far =
@@ -92,7 +92,7 @@ ends_at p q is client =
 
 -- ---- steps
 
-on_works : (at : Place) (mode : Mode) (has_xon : Bool) (steps more : List Step) (out input seen : List ℕ) (p q : Terminal) → IsServed at more p q → p.terms.has_xon ≡ has_xon
+on_works : (at : Place) (mode : PortMode) (has_xon : Bool) (steps more : List Step) (out input seen : List ℕ) (p q : Terminal) → IsServed at more p q → p.terms.has_xon ≡ has_xon
     → SoFar at mode has_xon steps out input seen p.port → SoFar at mode has_xon (steps ++ more) (out ++ []) (input ++ []) (seen ++ shown at more) q.port
 on_works at mode has_xon steps more out input seen p q served xon_is so_far =
     let text = shown at more in
@@ -111,7 +111,7 @@ on_works at mode has_xon steps more out input seen p q served xon_is so_far =
 
 -- ---- octets of the client
 
-on_hears : (at : Place) (mode : Mode) (has_xon : Bool) (steps : List Step) (out input seen octets : List ℕ) (port now : PortState) → now ≡ after_octets port octets
+on_hears : (at : Place) (mode : PortMode) (has_xon : Bool) (steps : List Step) (out input seen octets : List ℕ) (port now : PortState) → now ≡ after_octets port octets
     → SoFar at mode has_xon steps out input seen port → SoFar at mode has_xon (steps ++ []) (out ++ []) (input ++ octets) (seen ++ []) now
 on_hears at mode has_xon steps out input seen octets port now is so_far =
     let has = has_heard port octets in
@@ -133,7 +133,7 @@ on_hears at mode has_xon steps out input seen octets port now is so_far =
           (befall-more has_xon so_far.fates (keys_from mode new_reader input) (typed at steps) port.keys.items more so_far.keys));
     })
 
-hears_by : (b : Bool) (at : Place) (mode : Mode) (has_xon : Bool) (steps : List Step) (out input seen octets : List ℕ) (p q : Terminal)
+hears_by : (b : Bool) (at : Place) (mode : PortMode) (has_xon : Bool) (steps : List Step) (out input seen octets : List ℕ) (p q : Terminal)
     → q ≡ cond b (record p { port = after_octets p.port octets; silence = 0; quiet = 0 }) p → SoFar at mode has_xon steps out input seen p.port
     → SoFar at mode has_xon (steps ++ []) (out ++ []) (input ++ cond b octets []) (seen ++ []) q.port
 hears_by true at mode has_xon steps out input seen octets p q is so_far =
@@ -143,7 +143,7 @@ hears_by false at mode has_xon steps out input seen octets p q is so_far =
 
 -- ---- octets that are written
 
-on_writes : (at : Place) (mode : Mode) (has_xon : Bool) (steps : List Step) (out input seen : List ℕ) (count : ℕ) (p q : Terminal) → q ≡ written count p
+on_writes : (at : Place) (mode : PortMode) (has_xon : Bool) (steps : List Step) (out input seen : List ℕ) (count : ℕ) (p q : Terminal) → q ≡ written count p
     → has_client q.phase ≡ true → SoFar at mode has_xon steps out input seen p.port
     → SoFar at mode has_xon (steps ++ []) (out ++ take count p.port.output.octets) (input ++ []) (seen ++ []) q.port
 on_writes at mode has_xon steps out input seen count p q is client so_far =
@@ -162,7 +162,7 @@ on_writes at mode has_xon steps out input seen count p q is client so_far =
 -- ---- ticks
 
 -- a client that was silent too long is told so, if it is one of telnet and there is room
-tells_by : (room : Bool) (at : Place) (mode : Mode) (has_xon : Bool) (steps : List Step) (out input seen : List ℕ) (port now : PortState)
+tells_by : (room : Bool) (at : Place) (mode : PortMode) (has_xon : Bool) (steps : List Step) (out input seen : List ℕ) (port now : PortState)
     → now ≡ cond room (record port { output = with_shown port.mode port.output SILENT }) port → SoFar at mode has_xon steps out input seen port
     → SoFar at mode has_xon (steps ++ []) (out ++ []) (input ++ []) (seen ++ cond room SILENT []) now
 tells_by true at mode has_xon steps out input seen port now is so_far =
@@ -172,7 +172,7 @@ tells_by true at mode has_xon steps out input seen port now is so_far =
     (read_text mode out port.output seen SILENT so_far.reads) so_far
 tells_by false at mode has_xon steps out input seen port now is so_far = so_far_same at mode has_xon steps out input seen port now is so_far
 
-dismissed_by : (telnet : Bool) (at : Place) (mode : Mode) (has_xon : Bool) (steps : List Step) (out input seen : List ℕ) (port now : PortState)
+dismissed_by : (telnet : Bool) (at : Place) (mode : PortMode) (has_xon : Bool) (steps : List Step) (out input seen : List ℕ) (port now : PortState)
     → now ≡ cond telnet (with_shown_at SILENT port) port → SoFar at mode has_xon steps out input seen port
     → SoFar at mode has_xon (steps ++ []) (out ++ []) (input ++ []) (seen ++ cond (telnet && has_room (length SILENT) port) SILENT []) now
 dismissed_by true at mode has_xon steps out input seen port now is so_far =
@@ -180,7 +180,7 @@ dismissed_by true at mode has_xon steps out input seen port now is so_far =
 dismissed_by false at mode has_xon steps out input seen port now is so_far = so_far_same at mode has_xon steps out input seen port now is so_far
 
 -- a quiet client is sent a command, if it is one of telnet
-keeps_by : (quiet : Bool) (at : Place) (mode : Mode) (has_xon : Bool) (steps : List Step) (out input seen : List ℕ) (port now : PortState) (room : Bool)
+keeps_by : (quiet : Bool) (at : Place) (mode : PortMode) (has_xon : Bool) (steps : List Step) (out input seen : List ℕ) (port now : PortState) (room : Bool)
     → now ≡ cond (quiet && (is_telnet mode && room)) (record port { output = with_command port.output NoOperation }) port
     → SoFar at mode has_xon steps out input seen port → SoFar at mode has_xon (steps ++ []) (out ++ []) (input ++ []) (seen ++ []) now
 keeps_by true at Telnet has_xon steps out input seen port now true is so_far =
@@ -195,7 +195,7 @@ port_by : (b : Bool) (p q : Terminal) → (cond b p q).port ≡ cond b p.port q.
 port_by true p q = refl
 port_by false p q = refl
 
-waits_by : (silent : Bool) (at : Place) (mode : Mode) (has_xon : Bool) (steps : List Step) (out input seen : List ℕ) (p q : Terminal)
+waits_by : (silent : Bool) (at : Place) (mode : PortMode) (has_xon : Bool) (steps : List Step) (out input seen : List ℕ) (p q : Terminal)
     → q ≡ cond silent (dismissed p) (kept_alive p) → has_client q.phase ≡ true → SoFar at mode has_xon steps out input seen p.port
     → SoFar at mode has_xon (steps ++ []) (out ++ []) (input ++ []) (seen ++ cond (silent && (is_telnet p.port.mode && has_room (length SILENT) p.port)) SILENT []) q.port
 waits_by true at mode has_xon steps out input seen p q is client so_far =
@@ -214,7 +214,7 @@ unless_left : (b : Bool) (p other q : Terminal) → q ≡ cond b other (left p) 
 unless_left false p other q is client = absurd (left_goes p (subst (λ (r : Terminal). has_client r.phase ≡ true) is client))
 unless_left true p other q is client = is
 
-on_waits : (phase : Phase) (at : Place) (mode : Mode) (has_xon : Bool) (steps : List Step) (out input seen : List ℕ) (ticks : ℕ) (p q : Terminal)
+on_waits : (phase : Phase) (at : Place) (mode : PortMode) (has_xon : Bool) (steps : List Step) (out input seen : List ℕ) (ticks : ℕ) (p q : Terminal)
     → q ≡ elapsed_in phase ticks p → has_client q.phase ≡ true → SoFar at mode has_xon steps out input seen p.port
     → SoFar at mode has_xon (steps ++ []) (out ++ []) (input ++ []) (seen ++ told_in phase ticks p) q.port
 on_waits Open at mode has_xon steps out input seen ticks p q is client so_far =
@@ -286,7 +286,7 @@ terms_kept at orders p q did = terms_of p q (ordered p) did
 
 -- ---- what is done, one after the other
 
-on_deed : (at : Place) (mode : Mode) (has_xon : Bool) (steps : List Step) (out input seen : List ℕ) (deed : Deed) (p q : Terminal) → Did at deed p q
+on_deed : (at : Place) (mode : PortMode) (has_xon : Bool) (steps : List Step) (out input seen : List ℕ) (deed : Deed) (p q : Terminal) → Did at deed p q
     → has_client q.phase ≡ true → p.terms.has_xon ≡ has_xon → SoFar at mode has_xon steps out input seen p.port
     → SoFar at mode has_xon (steps ++ steps_in deed) (out ++ written_in deed p) (input ++ heard_in deed p) (seen ++ shown_in at deed p) q.port
 on_deed at mode has_xon steps out input seen (works more) p q did client xon_is so_far = on_works at mode has_xon steps more out input seen p q did xon_is so_far
@@ -298,7 +298,7 @@ on_deed at mode has_xon steps out input seen ends p q did client xon_is so_far =
 on_deed at mode has_xon steps out input seen orders p q did client xon_is so_far =
     so_far_same at mode has_xon steps out input seen p.port q.port (ap (λ (r : Terminal). r.port) did ∙ ordered_port p.was_silent (is_closing p.phase) p) so_far
 
-in_all : (at : Place) (mode : Mode) (has_xon : Bool) (steps : List Step) (out input seen : List ℕ) (p : Terminal) (deeds : List Deed) (q : Terminal)
+in_all : (at : Place) (mode : PortMode) (has_xon : Bool) (steps : List Step) (out input seen : List ℕ) (p : Terminal) (deeds : List Deed) (q : Terminal)
     (history : History at p deeds q) → p.terms.has_xon ≡ has_xon → SoFar at mode has_xon steps out input seen p.port
     → SoFar at mode has_xon (all_steps steps deeds) (all_written at out p deeds q history) (all_heard at input p deeds q history) (all_shown at seen p deeds q history) q.port
 in_all at mode has_xon steps out input seen p [] q history xon_is so_far = subst (λ (r : Terminal). SoFar at mode has_xon steps out input seen r.port) history so_far
@@ -313,7 +313,7 @@ greeted_so : (room : Bool) (greeting : List ℕ) (port : PortState) → room ≡
 greeted_so true greeting port is = refl
 greeted_so false greeting port is = cc
 
-begins : (at : Place) (mode : Mode) (has_xon : Bool) (greeting : List ℕ) → has_room (length greeting) (begun mode) ≡ true
+begins : (at : Place) (mode : PortMode) (has_xon : Bool) (greeting : List ℕ) → has_room (length greeting) (begun mode) ≡ true
     → SoFar at mode has_xon [] [] [] greeting (with_shown_at greeting (begun mode))
 begins at mode has_xon greeting place =
     subst (λ (r : PortState). SoFar at mode has_xon [] [] [] greeting r) (sym (greeted_so (has_room (length greeting) (begun mode)) greeting (begun mode) place)) (record {

@@ -1,13 +1,13 @@
 -- What becomes of each bridge, and of all.
-use Rattle.std.proofs.Common.{◌≡◌, ◌≢◌, ◌⊎◌, ◌<◌, ◌+◌, ◌-◌, ℕ, zero, suc, Bool, true, false, not, ◌&&◌, ◌||◌, List, [], ◌∷◌, ◌++◌, length, set, slice_get, position, get_or, flat_map, Option, Some, None, refl, sym, ap, ◌∙◌, subst, inl, inr, cond, append_assoc, append-nil, Result, Ok, Err, arith}
-use Rattle.std.specs.Prelude.{IfSome, OnErr, is_some, nat_lt}
+use Rattle.std.proofs.Common.{◌≡◌, ◌≢◌, ◌<◌, ◌+◌, ◌-◌, ℕ, zero, suc, Bool, true, false, not, ◌&&◌, ◌||◌, List, [], ◌∷◌, ◌++◌, length, set, slice_get, position, get_or, flat_map, Option, Some, None, refl, sym, ap, ◌∙◌, subst, inl, inr, cond, append-nil, Result, Ok, Err, arith}
+use Rattle.std.specs.Prelude.{is_some, nat_lt}
 use Rattle.std.specs.Borrow.{Bor}
 use Rattle.std.specs.List.{list_any, list_all, position_or_len}
 use Rattle.std.proofs.Math.ListN.{length-set}
 use Rattle.std.proofs.lemmas.Bool.{cases_eq}
 use Rattle.std.proofs.lemmas.Bool.Decides.{nat_tests}
 use Rattle.std.proofs.lemmas.Grind.{flat_map-append}
-use Rattle.std.proofs.lemmas.List.Folds.{list_all-append, list_any_at}
+use Rattle.std.proofs.lemmas.List.Folds.{list_any_at}
 use Rattle.std.proofs.lemmas.Option.{slice_get_within, get_or_from_slice_get}
 use Rattle.circular_buffer.proofs.Places.{slice_get-set_same, slice_get-set_other}
 use Rattle.bridge_ports.specs.declared.phases.BridgeTerms.{BridgeTerms}
@@ -31,11 +31,11 @@ use Rattle.service.specs.declared.bridges.Owner.TheVariants as owner
 use Rattle.service.specs.declared.hosts.HostChannel.{HostChannel}
 use Rattle.service.specs.declared.mail.News.{News}
 use Rattle.service.specs.declared.mail.News.TheVariants as news
-use Rattle.service.specs.Steps.{Step, Makes, Steps, AreAside, Does, PassesBy, is_at_host, is_at_terminal}
-use Rattle.service.specs.Bridging.{IsStill, IsCarried, Carries, PassesAt, is_on, said_in, taken_in, all_said, all_taken}
-use Rattle.service.specs.AllBridges.{Bridged, bridged, kept_channel, forgotten, turned, after_news, is_call_of, channel_of, channel_called, after_placing, IsHello, Part, passes, carries, hears, rings, calls, Befalls, AllBefall, steps_in, IsBridged, is_of_call, KeepsCall, CallsAreCarried, is_channel, has_channel, is_free_port, channel_in, channel_at, AreOnOwnChannels, HaveNoChannels, changed_in, bridge_changed, with_bridge, AreBridged, GoesThrough, ServesBridges, EndsCall, LeavesChannel, CallsOn, GoesThroughCall}
+use Rattle.service.specs.Steps.{Step, Makes, AreAside, Does, is_at_host, is_at_terminal}
+use Rattle.service.specs.Bridging.{IsStill, IsCarried, Carries, PassesAt, said_in, taken_in}
+use Rattle.service.specs.AllBridges.{Bridged, bridged, kept_channel, forgotten, after_news, is_call_of, channel_of, channel_called, after_placing, IsHello, Part, passes, carries, hears, rings, calls, Befalls, AllBefall, steps_in, IsBridged, is_of_call, CallsAreCarried, is_channel, has_channel, is_free_port, channel_in, channel_at, AreOnOwnChannels, HaveNoChannels, changed_in, bridge_changed, with_bridge, AreBridged, GoesThrough, ServesBridges, EndsCall, LeavesChannel, CallsOn, GoesThroughCall}
 use Rattle.service.proofs.Keys.{first_found}
-use Rattle.service.proofs.Stepping.{Lent, neither_left, neither_right, passes_by-then, steps-append, silent-none, elsewhere}
+use Rattle.service.proofs.Stepping.{Lent, neither_left, neither_right, passes_by-then, silent-none, elsewhere}
 use Rattle.service.proofs.Bridged.{carried-then, same_channel, on_itself, asks_nothing_there}
 
 -- ---- steps

@@ -2,14 +2,13 @@
 use Rattle.std.proofs.Common.{◌≡◌, ℕ, false, List, [], ◌∷◌, ◌++◌, refl, sym, ap, ◌∙◌, subst, append_assoc, append-nil, take, drop, map}
 use Rattle.std.proofs.lemmas.List.{take-append-drop}
 use Rattle.service_ports.specs.declared.command.TelnetCommand.{TelnetCommand}
-use Rattle.service_ports.specs.declared.command.TelnetCommand.TheVariants.{NoOperation}
 use Rattle.service_ports.specs.declared.input.TelnetReader.{TelnetReader}
 use Rattle.service_ports.specs.declared.input.Key.{Key}
 use Rattle.service_ports.specs.declared.input.Key.TheVariants.{Octet}
 use Rattle.service_ports.specs.declared.input.Heard.{Heard}
 use Rattle.service_ports.specs.declared.input.Heard.TheVariants.{Nothing, Typed, Answered}
-use Rattle.service_ports.specs.declared.mode.Mode.{Mode}
-use Rattle.service_ports.specs.declared.mode.Mode.TheVariants.{Telnet, Raw}
+use Rattle.service_ports.specs.declared.mode.PortMode.{PortMode}
+use Rattle.service_ports.specs.declared.mode.PortMode.TheVariants.{Telnet, Raw}
 use Rattle.service_ports.specs.Modes.{keys_heard, reads_in, text_seen, with_shown}
 use Rattle.service_ports.specs.Ports.{PortState, first_output, with_heard, after_octet, after_octets}
 use Rattle.service_ports.specs.Reading.{key_in, answer_in, keys_read, new_reader, reads}
@@ -18,25 +17,25 @@ use Rattle.service_ports.specs.ClientForm.{Item, shows, tells, with_items, texts
 use Rattle.service_ports.proofs.ClientReading.{Reads, items-read}
 
 -- where a reader is after octets, and the keys and answers of them
-abbrev pub reader_from : Mode → TelnetReader → List ℕ → TelnetReader
+abbrev pub reader_from : PortMode → TelnetReader → List ℕ → TelnetReader
 reader_from mode r [] = r
 reader_from mode r (octet ∷ octets) = reader_from mode (reads_in mode r octet).reader octets
 
-abbrev pub keys_from : Mode → TelnetReader → List ℕ → List Key
+abbrev pub keys_from : PortMode → TelnetReader → List ℕ → List Key
 keys_from mode r [] = []
 keys_from mode r (octet ∷ octets) = key_in (reads_in mode r octet).heard ++ keys_from mode (reads_in mode r octet).reader octets
 
-abbrev pub answers_from : Mode → TelnetReader → List ℕ → List TelnetCommand
+abbrev pub answers_from : PortMode → TelnetReader → List ℕ → List TelnetCommand
 answers_from mode r [] = []
 answers_from mode r (octet ∷ octets) = answer_in (reads_in mode r octet).heard ++ answers_from mode (reads_in mode r octet).reader octets
 
-pub keys_from-append : (mode : Mode) (r : TelnetReader) (xs ys : List ℕ) → keys_from mode r (xs ++ ys) ≡ keys_from mode r xs ++ keys_from mode (reader_from mode r xs) ys
+pub keys_from-append : (mode : PortMode) (r : TelnetReader) (xs ys : List ℕ) → keys_from mode r (xs ++ ys) ≡ keys_from mode r xs ++ keys_from mode (reader_from mode r xs) ys
 keys_from-append mode r [] ys = refl
 keys_from-append mode r (x ∷ xs) ys =
     ap (λ keys. key_in (reads_in mode r x).heard ++ keys) (keys_from-append mode (reads_in mode r x).reader xs ys)
     ∙ sym (append_assoc (key_in (reads_in mode r x).heard) (keys_from mode (reads_in mode r x).reader xs) (keys_from mode (reader_from mode (reads_in mode r x).reader xs) ys))
 
-pub reader_from-append : (mode : Mode) (r : TelnetReader) (xs ys : List ℕ) → reader_from mode r (xs ++ ys) ≡ reader_from mode (reader_from mode r xs) ys
+pub reader_from-append : (mode : PortMode) (r : TelnetReader) (xs ys : List ℕ) → reader_from mode r (xs ++ ys) ≡ reader_from mode (reader_from mode r xs) ys
 reader_from-append mode r [] ys = refl
 reader_from-append mode r (x ∷ xs) ys = reader_from-append mode (reads_in mode r x).reader xs ys
 
@@ -48,7 +47,7 @@ raw_keys : (r : TelnetReader) (octets : List ℕ) → keys_from Raw r octets ≡
 raw_keys r [] = refl
 raw_keys r (octet ∷ octets) = ap (λ keys. Octet octet ∷ keys) (raw_keys r octets)
 
-pub keys_of_mode : (mode : Mode) (octets : List ℕ) → keys_from mode new_reader octets ≡ keys_heard mode octets
+pub keys_of_mode : (mode : PortMode) (octets : List ℕ) → keys_from mode new_reader octets ≡ keys_heard mode octets
 keys_of_mode Telnet octets = telnet_keys new_reader octets
 keys_of_mode Raw octets = raw_keys new_reader octets
 
@@ -108,7 +107,7 @@ behind_items out o (shows text ∷ items) = ap (λ w. with_items w items) (behin
 behind_items out o (tells command ∷ items) = ap (λ w. with_items w items) (behind_command out o command) ∙ behind_items out (with_command o command) items
 
 -- what is read of a port: of what was written, and of what waits
-abbrev pub IsRead : Mode → (out : List ℕ) → Output → (text : List ℕ) → Type 0
+abbrev pub IsRead : PortMode → (out : List ℕ) → Output → (text : List ℕ) → Type 0
 IsRead Telnet out o text = Reads false (out ++ o.octets) text o.after_return
 IsRead Raw out o text = out ++ o.octets ≡ text
 
@@ -116,16 +115,16 @@ read_on : (out : List ℕ) (o : Output) (seen : List ℕ) (items : List Item) �
 read_on out o seen items so_far =
     subst (λ w. Reads false w.octets (seen ++ texts items) w.after_return) (behind_items out o items) (items-read (behind out o) seen items so_far)
 
-pub read_nothing : (mode : Mode) → IsRead mode [] (first_output mode) []
+pub read_nothing : (mode : PortMode) → IsRead mode [] (first_output mode) []
 read_nothing Telnet = record { text_is = refl; place_is = refl }
 read_nothing Raw = refl
 
-pub read_text : (mode : Mode) (out : List ℕ) (o : Output) (seen text : List ℕ) → IsRead mode out o seen → IsRead mode out (with_shown mode o text) (seen ++ text)
+pub read_text : (mode : PortMode) (out : List ℕ) (o : Output) (seen text : List ℕ) → IsRead mode out o seen → IsRead mode out (with_shown mode o text) (seen ++ text)
 read_text Telnet out o seen text so_far =
     subst (λ t. IsRead Telnet out (with_text o text) (seen ++ t)) (append-nil text) (read_on out o seen (shows text ∷ []) so_far)
 read_text Raw out o seen text so_far = sym (append_assoc out o.octets text) ∙ ap (λ t. t ++ text) so_far
 
-pub read_answers : (mode : Mode) (out : List ℕ) (o : Output) (seen : List ℕ) (r : TelnetReader) (octets : List ℕ) → IsRead mode out o seen
+pub read_answers : (mode : PortMode) (out : List ℕ) (o : Output) (seen : List ℕ) (r : TelnetReader) (octets : List ℕ) → IsRead mode out o seen
     → IsRead mode out (with_items o (tells_all (answers_from mode r octets))) seen
 read_answers Telnet out o seen r octets so_far =
     let answers = tells_all (answers_from Telnet r octets) in
@@ -139,7 +138,7 @@ read_command out o seen command so_far =
     subst (λ t. IsRead Telnet out (with_command o command) t) (append-nil seen) (read_on out o seen (tells command ∷ []) so_far)
 
 -- a part of what waits is written
-pub read_written : (mode : Mode) (out : List ℕ) (count : ℕ) (o : Output) (text : List ℕ) → IsRead mode out o text
+pub read_written : (mode : PortMode) (out : List ℕ) (count : ℕ) (o : Output) (text : List ℕ) → IsRead mode out o text
     → IsRead mode (out ++ take count o.octets) (record o { octets = drop count o.octets }) text
 read_written Telnet out count o text read =
     subst (λ octets. Reads false octets text o.after_return)
@@ -147,6 +146,6 @@ read_written Telnet out count o text read =
 read_written Raw out count o text read =
     append_assoc out (take count o.octets) (drop count o.octets) ∙ ap (λ octets. out ++ octets) (take-append-drop count o.octets) ∙ read
 
-pub text_of_mode : (mode : Mode) (out : List ℕ) (o : Output) (text : List ℕ) → IsRead mode out o text → text_seen mode (out ++ o.octets) ≡ text
+pub text_of_mode : (mode : PortMode) (out : List ℕ) (o : Output) (text : List ℕ) → IsRead mode out o text → text_seen mode (out ++ o.octets) ≡ text
 text_of_mode Telnet out o text read = read.text_is
 text_of_mode Raw out o text read = read

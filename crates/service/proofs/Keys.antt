@@ -1,6 +1,6 @@
 -- What becomes of keys that wait.
-use Rattle.std.proofs.Common.{◌≡◌, ℕ, zero, suc, Bool, true, false, List, [], ◌∷◌, ◌++◌, ◌<◌, ◌≤◌, ◌+◌, ◌==◌, length, take, drop, slice_get, Option, Some, None, refl, sym, ap, ◌∙◌, arith, subst, append_assoc, eqb, cond, not}
-use Rattle.std.specs.Prelude.{nat_lt, position, remove}
+use Rattle.std.proofs.Common.{◌≡◌, ℕ, suc, Bool, true, false, List, [], ◌∷◌, ◌++◌, ◌<◌, ◌+◌, length, take, drop, slice_get, Option, Some, None, refl, sym, ap, ◌∙◌, arith, subst, append_assoc, cond, not}
+use Rattle.std.specs.Prelude.{nat_lt, position}
 use Rattle.std.proofs.lemmas.Bool.Decides.{nat_tests}
 use Rattle.std.specs.List.{position_or_len}
 use Rattle.service_ports.specs.declared.input.Key.{Key}

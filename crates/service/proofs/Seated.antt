@@ -1,5 +1,5 @@
 -- Terminals of tables, and terminals of none.
-use Rattle.std.proofs.Common.{◌≡◌, ◌≢◌, ◌⊎◌, ℕ, zero, suc, Bool, List, [], ◌∷◌, ◌++◌, ◌<◌, ◌≤◌, ◌+◌, ◌&&◌, ◌||◌, true, false, eqb, eq-eqb, ◌==◌, length, position, set, slice_get, Some, None, refl, sym, ap, ◌∙◌, arith, inl, inr, subst, length-append}
+use Rattle.std.proofs.Common.{◌≡◌, ◌≢◌, ◌⊎◌, ℕ, zero, suc, Bool, List, [], ◌∷◌, ◌++◌, ◌<◌, ◌+◌, ◌&&◌, ◌||◌, true, false, eqb, eq-eqb, ◌==◌, length, position, set, slice_get, Some, refl, sym, ap, ◌∙◌, arith, inl, inr, subst, length-append}
 use Rattle.std.proofs.lemmas.Bool.{cases_eq}
 use Rattle.std.proofs.lemmas.Option.{slice_get_within}
 use Rattle.frame_lines.specs.Lines.{LineService}
@@ -12,10 +12,10 @@ use Rattle.service.specs.declared.seats.TerminalsBinding.{TerminalsBinding}
 use Rattle.service.specs.declared.terminal.Presence.TheVariants.{Gone}
 use Rattle.service.specs.declared.terminal.Terminal.{Terminal}
 use Rattle.service.specs.Places.{is_place, is_bound, AreApart}
-use Rattle.service.specs.Seats.{IsOfTable, AreSeated, IsOfSomeTable}
+use Rattle.service.specs.Seats.{AreSeated, IsOfSomeTable}
 use Rattle.service.specs.Absent.{PassesPlaces, IsTold, LeavesBelow, LeavesPads}
 use Rattle.service.specs.Terminals.{HasCome, attached, is_free, is_free_in}
-use Rattle.service.specs.Steps.{Step, Steps, IsSilent, HasTried, Does}
+use Rattle.service.specs.Steps.{Step, Does}
 use Rattle.service.proofs.Stepping.{steps-append, silent-none, silent-append, tried-left, tried-right, tried_step}
 use Rattle.service.proofs.Keys.{first_found}
 use Rattle.service.proofs.Served.{presence_is_silent}

@@ -1,5 +1,5 @@
 -- What steps are at one terminal, and at all of them.
-use Rattle.std.proofs.Common.{◌≡◌, ◌≢◌, ◌⊎◌, ℕ, Bool, true, false, not, ◌||◌, List, [], ◌∷◌, ◌++◌, ◌≤◌, ◌+◌, length, take, drop, remove, slice_get, position, Option, Some, None, refl, sym, ap, ◌∙◌, arith, inl, inr, append_assoc, append-nil, Result, Ok, Err, IfOk, eqb, ◌==◌, eq-eqb, subst, zero, suc, min, max, ◌&&◌, cond}
+use Rattle.std.proofs.Common.{◌≡◌, ◌≢◌, ◌⊎◌, ℕ, Bool, true, false, not, ◌||◌, List, [], ◌∷◌, ◌++◌, ◌≤◌, ◌+◌, length, take, drop, remove, slice_get, position, Option, Some, None, refl, sym, ap, ◌∙◌, arith, inl, inr, append_assoc, append-nil, Result, Ok, Err, IfOk, eqb, ◌==◌, eq-eqb, subst, zero, suc, ◌&&◌, cond}
 use Rattle.std.proofs.lemmas.Bool.{cases_eq}
 use Rattle.std.proofs.lemmas.Bool.Decides.{nat_tests}
 use Rattle.std.proofs.lemmas.List.{take-append-drop, length-take-le}
@@ -12,8 +12,8 @@ use Rattle.net_events.specs.declared.answer.Answer.{Answer}
 use Rattle.net_process.specs.Process.{ProcessState}
 use Rattle.service_ports.specs.declared.input.Key.{Key}
 use Rattle.service_ports.specs.declared.input.Key.TheVariants.{Octet, Break}
-use Rattle.service_ports.specs.declared.mode.Mode.{Mode}
-use Rattle.service_ports.specs.declared.mode.Mode.TheVariants.{Telnet, Raw}
+use Rattle.service_ports.specs.declared.mode.PortMode.{PortMode}
+use Rattle.service_ports.specs.declared.mode.PortMode.TheVariants.{Telnet, Raw}
 use Rattle.service_ports.specs.Modes.{with_shown}
 use Rattle.service_ports.specs.Ports.{is_octet}
 use Rattle.service_ports.specs.Writing.{Output, with_text}
@@ -25,8 +25,8 @@ use Rattle.service.specs.declared.terminal.Presence.TheVariants.{Here, Gone}
 use Rattle.service.specs.declared.terminal.Terminal.{Terminal}
 use Rattle.service.specs.declared.terminal.Terms.{Terms}
 use Rattle.service.specs.Terminals.{without_keys, without_key_at, urgent_place, xon_place, counted}
-use Rattle.service.specs.Steps.{Step, Makes, Steps, HasTried, AreIdle, is_idle, is_idle_answer, is_idle_outcome, text_of, key_event, presence_event, shown_by, typed_by, told_by, shown, typed, told, IsSilent, Does}
-use Rattle.service.specs.Serving.{Fate, pressed, hastened, overtaken, Befall, begins_urgently, overtaken_in, xon, untold_list, IsServed, WishesPresence, WishesKey, WishesXon, WishesKeys, WishesText, Wishes, Serves, shown_at, IsOvertaken, may_show}
+use Rattle.service.specs.Steps.{Step, Makes, is_idle, is_idle_answer, is_idle_outcome, text_of, key_event, presence_event, shown_by, typed_by, told_by, shown, typed, told, IsSilent, Does}
+use Rattle.service.specs.Serving.{Fate, pressed, hastened, overtaken, Befall, begins_urgently, overtaken_in, xon, untold_list, IsServed, WishesPresence, WishesXon, WishesKeys, WishesText, Wishes, Serves, shown_at, IsOvertaken, may_show}
 use Rattle.line_sim.specs.Stepping.{lent}
 use Rattle.node_events.specs.AnswerRoom.{IsWithinLimits}
 use Rattle.std.specs.Borrow.{Bor}
@@ -46,11 +46,11 @@ with_text_then o (x ∷ xs) ys =
     ∙ with_text_then (with_text o (x ∷ [])) xs ys
     ∙ with_text-cons o x (xs ++ ys)
 
-with_shown_none : (mode : Mode) (o : Output) → with_shown mode o [] ≡ o
+with_shown_none : (mode : PortMode) (o : Output) → with_shown mode o [] ≡ o
 with_shown_none Telnet o = with_text_none o
 with_shown_none Raw o = ap (λ octets. record o { octets = octets }) (append-nil o.octets)
 
-pub with_shown_then : (mode : Mode) (o : Output) (xs ys : List ℕ) → with_shown mode (with_shown mode o xs) ys ≡ with_shown mode o (xs ++ ys)
+pub with_shown_then : (mode : PortMode) (o : Output) (xs ys : List ℕ) → with_shown mode (with_shown mode o xs) ys ≡ with_shown mode o (xs ++ ys)
 with_shown_then Telnet o xs ys = with_text_then o xs ys
 with_shown_then Raw o xs ys = ap (λ octets. record o { octets = octets }) (append_assoc o.octets xs ys)
 
@@ -263,7 +263,7 @@ key_tells_nothing at (Octet octet) answer = refl
 key_tells_nothing at Break answer = refl
 
 -- the output is as before, and nothing was shown
-unchanged : (mode : Mode) (o : Output) (text : List ℕ) → text ≡ [] → o ≡ with_shown mode o text
+unchanged : (mode : PortMode) (o : Output) (text : List ℕ) → text ≡ [] → o ≡ with_shown mode o text
 unchanged mode o text none = sym (ap (λ text. with_shown mode o text) none ∙ with_shown_none mode o)
 
 -- a key is typed, and these keys are left

@@ -1,5 +1,5 @@
 -- Deeds for lines to other processes, one after the other.
-use Rattle.std.proofs.Common.{◌≡◌, ℕ, Bool, true, false, List, [], ◌∷◌, ◌++◌, refl, sym, ap, ◌∙◌, subst, Result, Option, Some, None}
+use Rattle.std.proofs.Common.{◌≡◌, ℕ, Bool, true, false, List, [], ◌∷◌, ◌++◌, refl, sym, ap, ◌∙◌, subst, Option, Some, None}
 use Rattle.std.specs.Prelude.{slice_get}
 use Rattle.std.specs.Bool.{OnTrue, OnFalse}
 use Rattle.std.specs.List.{position}
@@ -12,10 +12,8 @@ use Rattle.remote_lines.specs.declared.line.RemoteLine.{RemoteLine}
 use Rattle.net_process.specs.Carrying.{carried}
 use Rattle.net_process.specs.Process.{ProcessState}
 use Rattle.net_process.specs.Remote.{HasRead, after_given_up, given_up, given_up_by, given_up_at, given_up_on, event_at, is_given_up}
-use Rattle.net_process.specs.Starting.{HasRestarted}
 use Rattle.service.specs.declared.absent.PadBinding.{PadBinding}
 use Rattle.service.specs.declared.place.Place.{Place}
-use Rattle.service.specs.Absent.{LeavesAbsent}
 use Rattle.service.specs.Lines.{LineDeed, starts, steps, gives_up, reads, hands_on, DoesAll, steps_in, ServesLines, StartsOne}
 use Rattle.service.specs.Steps.{Step, Steps, IsSilent, Does, is_at_terminal}
 use Rattle.service.proofs.Stepping.{silent-none, silent-append, elsewhere}

@@ -1,8 +1,8 @@
 -- What steps of a network do on a logical channel of a host, and what that is at the bridge that has its call.
-use Rattle.std.specs.Prelude.{◌≡◌, ◌≢◌, ◌⊎◌, ℕ, Bool, true, false, not, List, [], ◌∷◌, ◌==◌, ◌&&◌, flat_map, Option, Some, None, Result, Ok, Err, if◌then◌else◌}
+use Rattle.std.specs.Prelude.{◌≡◌, ◌≢◌, ℕ, Bool, true, false, not, List, [], ◌∷◌, ◌==◌, ◌&&◌, flat_map, Option, Some, Result, Ok, Err, if◌then◌else◌}
 use Rattle.std.specs.List.{list_all}
 use Rattle.bridge_ports.specs.Bridges.{BridgeState, is_free, taken}
-use Rattle.bridge_ports.specs.Laws.{Deed, hears, says, takes, writes, turns, after_deeds, all_by, said_by}
+use Rattle.bridge_ports.specs.Laws.{Deed, hears, says, takes, writes, after_deeds, all_by, said_by}
 use Rattle.data_transfer.specs.declared.taken.Front.{Front}
 use Rattle.data_transfer.specs.declared.taken.Front.TheVariants.{Data}
 use Rattle.frame_lines.specs.Lines.{LineService}

@@ -1,6 +1,6 @@
 -- A client at a port, from when it came on: what it sent, what it was shown, and what was handed to its connection.
 use Rattle.std.specs.Prelude.{◌≡◌, ◌&&◌, ℕ, Bool, true, List, [], ◌∷◌, ◌++◌, take, length, if◌then◌else◌}
-use Rattle.service_ports.specs.declared.mode.Mode.{Mode}
+use Rattle.service_ports.specs.declared.mode.PortMode.{PortMode}
 use Rattle.service_ports.specs.Modes.{is_telnet, keys_heard, text_seen}
 use Rattle.service_ports.specs.Ports.{begun}
 use Rattle.service.specs.declared.place.Place.{Place}
@@ -85,7 +85,7 @@ all_shown at so_far p (deed ∷ deeds) q history =
 
 -- A client that reads what was written and what waits, as its mode has it, reads all that was shown. What it typed, as its
 -- mode has it, went to the terminal: each key was typed, or was overtaken, or waits.
-pub record IsClientServed (at : Place) (mode : Mode) (has_xon : Bool) (steps : List Step)
+pub record IsClientServed (at : Place) (mode : PortMode) (has_xon : Bool) (steps : List Step)
     (written heard shown : List ℕ) (q : Terminal) : Type 0 where
   pub reads : text_seen mode (written ++ q.port.output.octets) ≡ shown
   pub fates : List Fate

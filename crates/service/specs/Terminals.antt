@@ -1,11 +1,11 @@
 -- A terminal, and what the calls of a client's connection make of it.
-use Rattle.std.specs.Prelude.{◌≡◌, ℕ, zero, suc, ◌+◌, ◌-◌, ◌*◌, ◌==◌, min, max, Bool, true, false, not, ◌&&◌, ◌||◌, nat_lt, nat_le, List, [], ◌∷◌, drop, length, is_none, map, remove, set, slice_get, position, unwrap_or, Option, Some, None, if◌then◌else◌}
+use Rattle.std.specs.Prelude.{◌≡◌, ℕ, zero, suc, ◌+◌, ◌-◌, ◌*◌, ◌==◌, min, max, Bool, true, false, not, ◌&&◌, ◌||◌, nat_lt, nat_le, List, drop, length, is_none, remove, set, slice_get, position, unwrap_or, Option, Some, None, if◌then◌else◌}
 use Rattle.std.specs.List.{list_all}
 use Rattle.circular_buffer.specs.Buffer.{buffer}
 use Rattle.net_process.specs.Process.{ProcessState, process_rests}
 use Rattle.service_ports.specs.declared.command.TelnetCommand.TheVariants.{NoOperation}
 use Rattle.service_ports.specs.declared.input.Key.{Key}
-use Rattle.service_ports.specs.declared.mode.Mode.{Mode}
+use Rattle.service_ports.specs.declared.mode.PortMode.{PortMode}
 use Rattle.service_ports.specs.Modes.{is_telnet, with_shown}
 use Rattle.service_ports.specs.Ports.{PortState, begun, after_octets, is_break_or, is_octet, takes_octet}
 use Rattle.service_ports.specs.Writing.{with_command}
@@ -49,7 +49,7 @@ abbrev pub are_deserted : List Terminal → Bool
 are_deserted = list_all (λ (p : Terminal). is_free_phase p.phase)
 
 -- as made
-abbrev pub fresh : Mode → Terms → Terminal
+abbrev pub fresh : PortMode → Terms → Terminal
 fresh mode terms = record {
   terms = terms;
   port = begun mode;

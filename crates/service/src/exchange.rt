@@ -92,7 +92,7 @@ impl<L: Line> Exchange<L> {
             return false;
         };
         if self.happen(&at_terminal(at, key_event(key))) {
-            terminal.typed();
+            terminal.port.drop_keys(1);
             return true;
         }
         if self.hasten(at, terminal) {
@@ -111,7 +111,7 @@ impl<L: Line> Exchange<L> {
         if !self.happen(&at_terminal(at, TerminalEvent::Key(XON))) {
             return false;
         }
-        terminal.hastened(place);
+        terminal.port.drop_key(place);
         true
     }
 

@@ -31,4 +31,4 @@ pub use law::{bridge_calls_law, port_law};
 pub use net_process::{Process, Share};
 pub use seats::TerminalsBinding;
 pub use service::{Bindings, Order, PortStatus, Service};
-pub use service_ports::Mode;
+pub use service_ports::PortMode;

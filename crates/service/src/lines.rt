@@ -1,8 +1,7 @@
 //! Lines to other processes.
-ghost use Rattle.std.specs.Prelude.{◌≡◌, true, List, length, take};
+ghost use Rattle.std.specs.Prelude.{◌≡◌, true, List};
 ghost use Rattle.std.specs.Bool.{OnTrue, OnFalse};
 ghost use Rattle.net_process.specs.Process.{may_start};
-ghost use Rattle.net_process.specs.Remote.{lost, made, order_at, after_order_at, takes, with_came, with_written};
 ghost use Rattle.service.specs.declared.place.Place.{Place};
 ghost use Rattle.service.specs.Lines.{ServesLines, Starts, StartsOne};
 
@@ -12,9 +11,13 @@ use crate::service::Service;
 use line_sim::{Direction, Line};
 use link_timers::Role;
 use net_process::Process;
-use remote_lines::{LineOrder, Reading};
+use remote_lines::Reading;
 
 impl<L: Line> Service<L> {
+    ghost use Rattle.std.specs.Borrow.{Lends, sem};
+    ghost use Rattle.net_process.specs.contracts.process.Process.{the_row as process_row};
+    ghost use Rattle.service.specs.contracts.service.Service.{the_row};
+
     /// Does what lines to other processes want: a node starts if its lines let it, a link is given up if its line had no
     /// connection for too long, what came is read, and what nodes sent is handed to the connections. The answer is
     /// whether more may be left.
@@ -53,47 +56,14 @@ impl<L: Line> Service<L> {
         &self.exchange.net
     }
 
-    /// A new connection of a line stands, and replaces the old one.
-    pub fn line_made(&mut self, place: usize)
-        ensures network { self.new.exchange.net ≡ made place self.old.exchange.net }
-        ensures terminals { self.new.terminals ≡ self.old.terminals }
+    /// Lends the process for what happens at the connections of its lines.
+    pub fn net_mut(&mut self) -> &mut Process<L>
+        ensures* lends { sem 𝓛 (Lends (the_row L.row L.Line) (process_row L.row L.Line) self.entry result
+            (λ net. record self.entry.now { exchange = record self.entry.now.exchange { net = net } })) }
+        ensures network { result.now ≡ self.old.exchange.net }
     {
-        self.exchange.net.line_made(place);
-    }
-
-    /// The connection of a line is lost.
-    pub fn line_lost(&mut self, place: usize)
-        ensures network { self.new.exchange.net ≡ lost place self.old.exchange.net }
-        ensures terminals { self.new.terminals ≡ self.old.terminals }
-    {
-        self.exchange.net.line_lost(place);
-    }
-
-    /// Takes octets that came over the connection of a line, from the first on, as long as there is room. The answer is
-    /// how many were taken.
-    pub fn line_came(&mut self, place: usize, octets: &[u8]) -> usize
-        ensures taken { result ≡ takes place self.old.exchange.net (length octets.now) }
-        ensures network { self.new.exchange.net ≡ with_came place (take result octets.now) self.old.exchange.net }
-        ensures terminals { self.new.terminals ≡ self.old.terminals }
-    {
-        self.exchange.net.line_came(place, octets)
-    }
-
-    /// The first `count` octets that wait for the connection of a line were written.
-    pub fn line_written(&mut self, place: usize, count: usize)
-        ensures network { self.new.exchange.net ≡ with_written place count self.old.exchange.net }
-        ensures terminals { self.new.terminals ≡ self.old.terminals }
-    {
-        self.exchange.net.line_written(place, count);
-    }
-
-    /// What is to be done next for the connection of a line. Each order is given once.
-    pub fn line_order(&mut self, place: usize) -> Option<LineOrder>
-        ensures order { result ≡ order_at place self.old.exchange.net }
-        ensures network { self.new.exchange.net ≡ after_order_at place self.old.exchange.net }
-        ensures terminals { self.new.terminals ≡ self.old.terminals }
-    {
-        self.exchange.net.line_order(place)
+        let exchange = &mut self.exchange;
+        &mut exchange.net
     }
 }
 

@@ -1,5 +1,5 @@
 //! Rounds of a service: each serves each terminal, each call and each line in turn.
-ghost use Rattle.std.specs.Prelude.{◌≡◌, ◌≤◌, length};
+ghost use Rattle.std.specs.Prelude.{◌≡◌, length};
 ghost use Rattle.service.specs.AllBridges.{WorksForAll};
 ghost use Rattle.service.specs.Places.{AreApart};
 ghost use Rattle.service.specs.Serving.{Serves, ServesBelow, Wishes, WishesKeys, Works};

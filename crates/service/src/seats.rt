@@ -4,7 +4,7 @@ ghost use Rattle.service.specs.Seats.{AreSeated};
 
 use crate::place::{Place, is_bound};
 use crate::terminal::{Terminal, Terms};
-use service_ports::Mode;
+use service_ports::PortMode;
 use std::alloc::{AllocError, Global};
 
 /// Terminals of a PAD that clients have: the PAD's name, its number in the network, and the numbers of the first and the
@@ -15,7 +15,7 @@ pub struct TerminalsBinding<'a> {
     pub node: usize,
     pub first: u16,
     pub last: u16,
-    pub mode: Mode,
+    pub mode: PortMode,
     /// What a client of telnet is told first. Left out: which terminal it has, and what it may do.
     pub greeting: Option<&'a str>,
     /// After how many ticks without an octet either way a client goes. 0: never.
@@ -106,9 +106,9 @@ fn greeting(
 ) -> Result<String, AllocError> {
     let name = binding.name;
     match (binding.mode, binding.greeting) {
-        (Mode::Raw, _) => Ok(String::new(alloc)),
-        (Mode::Telnet, Some(text)) => format!(in alloc; "{text}\r\n"),
-        (Mode::Telnet, None) => format!(in alloc;
+        (PortMode::Raw, _) => Ok(String::new(alloc)),
+        (PortMode::Telnet, Some(text)) => format!(in alloc; "{text}\r\n"),
+        (PortMode::Telnet, None) => format!(in alloc;
             "Terminal {number} of {name}. Dial a number and Return; Ctrl-P, then CLR and Return, clears the call.\r\n"
         ),
     }

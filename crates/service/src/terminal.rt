@@ -2,9 +2,9 @@
 ghost use Rattle.std.specs.Prelude.{◌≡◌, ◌≤◌, ◌<◌, ◌||◌, true, false, not, length, take, IfOk};
 ghost use Rattle.std.specs.Bool.{OnTrue, OnFalse};
 ghost use Rattle.service_ports.specs.Ports.{takes_octet};
-ghost use Rattle.service.specs.Terminals.{attached, dismissed, elapsed, ended, fresh, has_client, heard, is_free, is_free_in, is_free_phase, is_open, kept_alive, left, left_if_written, urgent_place, waited, without_key_at, without_keys, written, xon_place};
+ghost use Rattle.service.specs.Terminals.{attached, dismissed, elapsed, ended, fresh, has_client, heard, is_free, is_free_in, is_free_phase, is_open, kept_alive, left, left_if_written, urgent_place, waited, written, xon_place};
 
-use service_ports::{Mode, Port, TelnetCommand};
+use service_ports::{Port, PortMode, TelnetCommand};
 use std::alloc::{AllocError, Global};
 
 /// How long what waits may take to be written out to a client that is to go, in ticks.
@@ -86,7 +86,7 @@ impl Terminal {
     ghost use Rattle.service.specs.Serving.{IsOvertaken, may_show, shown_at};
 
     /// A terminal that nobody has. Its PAD is not told so yet.
-    pub(crate) fn new(alloc: Global, mode: Mode, terms: Terms) -> Result<Self, AllocError>
+    pub(crate) fn new(alloc: Global, mode: PortMode, terms: Terms) -> Result<Self, AllocError>
         ensures { IfOk result (λ terminal. terminal ≡ fresh mode terms) }
     {
         Ok(Terminal {
@@ -209,7 +209,7 @@ impl Terminal {
     fn dismiss(&mut self)
         ensures { self.new ≡ dismissed self.old }
     {
-        if self.port.is_telnet() {
+        if self.port.mode().is_telnet() {
             let _ = self.port.show(&SILENT);
         }
         self.was_silent = true;
@@ -272,13 +272,6 @@ impl Terminal {
         let _ = self.port.show(text);
     }
 
-    /// The first key was typed.
-    pub(crate) fn typed(&mut self)
-        ensures { self.new ≡ without_keys 1 self.old }
-    {
-        self.port.drop_keys(1);
-    }
-
     /// The place of the first key that waits and is an XON, if the PAD has one.
     pub(crate) fn find_xon(&self) -> Option<usize>
         ensures { result ≡ xon_place self.now }
@@ -287,13 +280,6 @@ impl Terminal {
             return None;
         }
         self.port.find_octet(XON)
-    }
-
-    /// The key of this place was typed before those that wait.
-    pub(crate) fn hastened(&mut self, place: usize)
-        ensures { self.new ≡ without_key_at place self.old }
-    {
-        self.port.drop_key(place);
     }
 
     /// The first key cannot be typed: if a recall or a break comes after it, the keys before that are dropped, and the

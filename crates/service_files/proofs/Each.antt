@@ -1,9 +1,9 @@
 -- What the values of an array say, read one after the other, and refusals that are passed on.
 use Rattle.std.proofs.Common.{◌≡◌, ℕ, suc, zero, ◌+◌, ◌<◌, List, [], ◌∷◌, ◌++◌, length, take, get_or, sym, ◌∙◌, ap}
-use Rattle.std.proofs.Common.{Some, None, Vec, Global, inl, inr, Option}
+use Rattle.std.proofs.Common.{Some, Vec, Global, inl, inr}
 use Rattle.std.specs.Prelude.{Result, Ok, Err, IsErrAnd, IfOk}
 use Rattle.std.proofs.lemmas.List.{take_more}
-use Rattle.toml.specs.Data.{Data, Items, item, Members, as_table, get_item, push_item}
+use Rattle.toml.specs.Data.{Data, Items, Members, as_table, get_item, push_item}
 use Rattle.toml.specs.View.{view, items_view}
 use Rattle.toml.specs.declared.value.Value.{Value}
 use Rattle.toml.proofs.Views.{items_view-push, get_item_within}

@@ -13,8 +13,7 @@ use Rattle.net_config.specs.declared.config.NodeConfig.{NodeConfig}
 use Rattle.net_config.specs.declared.config.NodeKind.{NodeKind}
 use Rattle.net_config.specs.declared.config.NodeKind.TheVariants as node_kind
 use Rattle.service_files.specs.Addresses.{is_here, same_place}
-use Rattle.service_ports.specs.declared.mode.Mode.{Mode}
-use Rattle.service_ports.specs.declared.mode.Mode.TheVariants as mode_is
+use Rattle.service_ports.specs.Modes.{is_telnet}
 use Rattle.service_files.specs.declared.file.TerminalsTable.{TerminalsTable}
 use Rattle.service_files.specs.declared.file.ServiceTable.{ServiceTable}
 use Rattle.service_files.specs.declared.file.CallerTable.{CallerTable}
@@ -63,10 +62,6 @@ has_last c t = nat_le t.first (last_of c t) && nat_lt (last_of c t) (terminals_i
 abbrev pub overlaps : Config → TerminalsTable → TerminalsTable → Bool
 overlaps c t other =
     same_text t.pad.now other.pad.now && nat_le other.first (last_of c t) && nat_le t.first (last_of c other)
-
-abbrev pub is_telnet : Mode → Bool
-is_telnet mode_is.Telnet = true
-is_telnet mode_is.Raw = false
 
 -- if there is one, it is not the other
 abbrev pub is_apart : SocketAddr → Option SocketAddr → Bool

@@ -1,10 +1,10 @@
 -- Which nodes of a network are in this process, and the first rule that lines break whose other ends are elsewhere.
-use Rattle.std.specs.Prelude.{◌≡◌, ℕ, zero, suc, Bool, true, false, not, ◌&&◌, ◌||◌, ◌==◌, List, [], ◌∷◌, length, replicate, set, slice_get, is_some, nat_le, nat_lt, Option, Some, None, option_map, unwrap_or, string_bytes, if◌then◌else◌}
+use Rattle.std.specs.Prelude.{ℕ, zero, suc, Bool, true, false, not, ◌&&◌, ◌||◌, ◌==◌, List, [], ◌∷◌, length, replicate, set, slice_get, is_some, nat_le, nat_lt, Option, Some, None, option_map, unwrap_or, string_bytes, if◌then◌else◌}
 use Rattle.std.specs.List.{list_all, list_any, filter, position}
 use Rattle.std.specs.Option.{option_or}
 use Rattle.std.specs.Net.Socket.{socket_ip}
 use Rattle.std.specs.declared.net.socket_addr.SocketAddr.{SocketAddr}
-use Rattle.net_config.specs.Served.{exactly_one, is_named}
+use Rattle.net_config.specs.Served.{is_named}
 use Rattle.net_config.specs.Rules.{first_at}
 use Rattle.net_config.specs.declared.config.Config.{Config}
 use Rattle.net_config.specs.declared.config.LineConfig.{LineConfig}

@@ -7,8 +7,8 @@ use Rattle.std.specs.declared.net.socket_addr.SocketAddr.{SocketAddr}
 use Rattle.hex.specs.Hex.{decode_of}
 use Rattle.toml.specs.Data.{Data, Items, Members, as_str}
 use Rattle.net_config.specs.Served.{same_text}
-use Rattle.service_ports.specs.declared.mode.Mode.{Mode}
-use Rattle.service_ports.specs.declared.mode.Mode.TheVariants.{Telnet, Raw}
+use Rattle.service_ports.specs.declared.mode.PortMode.{PortMode}
+use Rattle.service_ports.specs.declared.mode.PortMode.TheVariants.{Telnet, Raw}
 use Rattle.service_files.specs.declared.file.BuiltInName.{BuiltInName}
 use Rattle.service_files.specs.declared.file.BuiltInName.TheVariants.{Echo, Time, Discard}
 use Rattle.bridge_ports.specs.declared.phases.AtReset.{AtReset}
@@ -26,7 +26,7 @@ use Rattle.service_files.specs.Addresses.{IsPrefixText, is_here}
 use Rattle.service_files.specs.Bindings.{is_apart}
 use Rattle.service_files.specs.Reads.{EachSays, text_at, number_at, flag_at, values_at, table_at}
 
-abbrev pub mode_of : Option (List ℕ) → Mode
+abbrev pub mode_of : Option (List ℕ) → PortMode
 mode_of None = Telnet
 mode_of (Some word) = if same_text word (codes "raw") then Raw else Telnet
 

@@ -1,7 +1,7 @@
 //! What a service file says. Its texts lie in the document that it was read from.
 use crate::addresses::Allow;
 use bridge_ports::AtReset;
-use service_ports::Mode;
+use service_ports::PortMode;
 use std::net::SocketAddr;
 
 /// The name of a service of `x25d` itself.
@@ -23,7 +23,7 @@ pub struct TerminalsTable<'a> {
     pub first: u16,
     /// None: the PAD's last one.
     pub last: Option<u16>,
-    pub mode: Mode,
+    pub mode: PortMode,
     pub greeting: Option<&'a str>,
     /// How many ticks without an octet either way end the connection; 0: none do.
     pub idle: u16,

@@ -1,5 +1,5 @@
 //! Which nodes of a network are in this process, and the first rule that lines break whose other ends are elsewhere.
-ghost use Rattle.std.specs.Prelude.{◌≡◌, ◌<◌, ℕ, true, IfOk, not, length, option_map, set, slice_get};
+ghost use Rattle.std.specs.Prelude.{◌≡◌, ◌<◌, true, IfOk, not, length, option_map, set};
 ghost use Rattle.std.specs.List.{filter, position, list_all};
 ghost use Rattle.net_config.specs.Rules.{first_of};
 ghost use Rattle.service_files.specs.Addresses.{same_place};

@@ -1,9 +1,7 @@
 //! What the other end of a line is, and how it is reached, as a table of `[[line]]` says it.
 ghost use Rattle.std.specs.Prelude.{◌≡◌, IfOk, option_map};
-ghost use Rattle.std.specs.Net.Grammar.{IsSocketText};
 ghost use Rattle.toml.specs.View.{table_view};
-ghost use Rattle.service_files.specs.Reads.{Reads};
-ghost use Rattle.service_files.specs.Ways.{far_of, IsConnection, IsUdp, IsXot, SaysWay, SaysConnection, SaysUdp, SaysXot};
+ghost use Rattle.service_files.specs.Ways.{far_of, SaysWay, SaysConnection, SaysUdp, SaysXot};
 
 use crate::file::{UdpWay, Way, XotWay};
 use crate::keys::{OF_CONNECTIONS, OF_DATAGRAMS, OF_PROCESS};

@@ -9,7 +9,7 @@ use crate::refusal::Refusal;
 use file_tables::{Key, first_fault, tell_fault, value_at};
 use std::alloc::{AllocError, Global};
 use std::fmt::Write;
-use toml::{Table, Value};
+use toml::Table;
 
 /// Where in the file something stands. Tables of an array count from 0.
 #[derive(Clone, Copy)]

@@ -16,7 +16,7 @@ use crate::refusal::Refusal;
 use crate::rules::is_apart;
 use crate::values::{items_at, number_at, read_address, read_allow, read_table, table_at, text_at};
 use network_reasons::{tell_no_toml, text_of};
-use service_ports::Mode;
+use service_ports::PortMode;
 use std::alloc::Global;
 use std::net::SocketAddr;
 use toml::{Table, Value};
@@ -216,12 +216,12 @@ fn binding_of<'a>(table: &'a Table, listen: SocketAddr, allow: Allow) -> Termina
     }
 }
 
-fn mode_of(word: Option<&str>) -> Mode
+fn mode_of(word: Option<&str>) -> PortMode
     ensures { result ≡ mode_of (option_map (λ word. word.now) word.entry) }
 {
     match word {
-        Some("raw") => Mode::Raw,
-        _ => Mode::Telnet,
+        Some("raw") => PortMode::Raw,
+        _ => PortMode::Telnet,
     }
 }
 

@@ -1,6 +1,6 @@
 //! The first rule that a service file breaks with its network.
-ghost use Rattle.std.specs.Prelude.{◌≡◌, ◌-◌, IfSome, is_none, not, length, find, option_map, unwrap_or};
-ghost use Rattle.std.specs.List.{list_all, list_any, filter, position};
+ghost use Rattle.std.specs.Prelude.{◌≡◌, ◌-◌, IfSome, is_none, not, length, find, option_map};
+ghost use Rattle.std.specs.List.{list_any, filter, position};
 ghost use Rattle.net_config.specs.Served.{has_end, is_named, is_pad, is_pad_named, same_text};
 ghost use Rattle.net_config.specs.Rules.{first_of};
 ghost use Rattle.service_files.specs.Addresses.{same_place};
@@ -9,7 +9,6 @@ ghost use Rattle.service_files.specs.Bindings as spec;
 use crate::addresses::{is_here, same_place};
 use crate::file::{CallerTable, ServiceFile, ServiceTable, TerminalsTable};
 use net_config::{Config, LineConfig, NodeConfig, NodeKind};
-use service_ports::Mode;
 use std::net::SocketAddr;
 
 /// A rule that does not hold, and of which table, by its place.
@@ -261,15 +260,6 @@ fn count_host(file: &ServiceFile<'_>, host: &str) -> usize
         .count()
 }
 
-fn is_telnet(mode: Mode) -> bool
-    ensures { result ≡ spec.is_telnet mode }
-{
-    match mode {
-        Mode::Telnet => true,
-        Mode::Raw => false,
-    }
-}
-
 pub(crate) fn is_apart(listen: SocketAddr, other: Option<SocketAddr>) -> bool
     ensures { result ≡ spec.is_apart listen other }
 {
@@ -303,7 +293,7 @@ fn terminals_keep(
         TerminalsRule::LastIsThere => has_last(config, table),
         TerminalsRule::Apart => count_overlaps(config, file, table) == 1,
         TerminalsRule::ListenOnce => listens_once(file, table.listen),
-        TerminalsRule::GreetingAtTelnet => is_telnet(table.mode) || table.greeting.is_none(),
+        TerminalsRule::GreetingAtTelnet => table.mode.is_telnet() || table.greeting.is_none(),
         TerminalsRule::AllowBeyond => is_here(table.listen.ip()) || table.allow.prefixes.is_some(),
     }
 }

@@ -3,8 +3,8 @@ use Rattle.std.specs.Prelude.{ℕ, Bool, true, false, List, [], ◌∷◌, ◌++
 use Rattle.circular_buffer.specs.Buffer.{Buffer, buffer}
 use Rattle.service_ports.specs.declared.command.TelnetCommand.TheVariants.{Will}
 use Rattle.service_ports.specs.declared.input.TelnetReader.{TelnetReader}
-use Rattle.service_ports.specs.declared.mode.Mode.{Mode}
-use Rattle.service_ports.specs.declared.mode.Mode.TheVariants.{Telnet, Raw}
+use Rattle.service_ports.specs.declared.mode.PortMode.{PortMode}
+use Rattle.service_ports.specs.declared.mode.PortMode.TheVariants.{Telnet, Raw}
 use Rattle.service_ports.specs.declared.input.Key.{Key}
 use Rattle.service_ports.specs.declared.input.Key.TheVariants.{Octet, Break}
 use Rattle.service_ports.specs.declared.input.Heard.{Heard}
@@ -15,7 +15,7 @@ use Rattle.service_ports.specs.Writing.{Output, new_output, with_command}
 
 -- its mode, where the reader is, the keys that wait to be typed, and what waits to be written
 pub record PortState : Type 0 where
-  pub mode : Mode
+  pub mode : PortMode
   pub reader : TelnetReader
   pub keys : Buffer Key
   pub output : Output
@@ -58,12 +58,12 @@ abbrev pub octet_places : ℕ
 octet_places = 16384
 
 -- what a new client of telnet is told first: both options are offered, once
-abbrev pub first_output : Mode → Output
+abbrev pub first_output : PortMode → Output
 first_output Telnet = with_command (with_command (new_output octet_places) (Will 1)) (Will 3)
 first_output Raw = new_output octet_places
 
 -- a port of a new client
-abbrev pub begun : Mode → PortState
+abbrev pub begun : PortMode → PortState
 begun mode = record {
   mode = mode;
   reader = new_reader;

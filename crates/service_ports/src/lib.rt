@@ -12,6 +12,6 @@ mod port;
 pub use command::TelnetCommand;
 pub use input::{Heard, Key, TelnetReader};
 pub use law::telnet_law;
-pub use mode::Mode;
+pub use mode::PortMode;
 pub use output::TelnetOutput;
 pub use port::Port;

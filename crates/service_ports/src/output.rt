@@ -54,8 +54,8 @@ impl TelnetOutput {
         self.after_return = false;
     }
 
-    /// How many octets wait.
-    pub fn len(&self) -> usize
+    /// How many octets wait to be written.
+    pub fn waiting_octets(&self) -> usize
         ensures { result ≡ length self.now.octets }
     {
         self.octets.len()

@@ -8,11 +8,12 @@ ghost use Rattle.service_ports.specs.Writing.{with_command};
 
 use crate::command::{ECHO, SUPPRESS_GO_AHEAD, TelnetCommand};
 use crate::input::{Heard, Key, TelnetReader};
-use crate::mode::Mode;
+use crate::mode::PortMode;
 use crate::output::TelnetOutput;
 use circular_buffer::HeapCircularBuffer;
 use std::alloc::{AllocError, Global};
 use std::marker::Model;
+use std::ops::Deref;
 
 /// How many keys may wait to be typed.
 pub const MOST_KEYS: usize = 2048;
@@ -20,10 +21,11 @@ pub const MOST_KEYS: usize = 2048;
 /// How many octets may wait to be written.
 pub const MOST_OCTETS: usize = 16_384;
 
-/// One client's side of a terminal: what the client sent and is not typed yet, and what is shown and not written yet.
+/// One client's side of a terminal: what the client sent and is not typed yet, and what is shown and not written yet. What
+/// asks about the latter, without a change, is a call of [`TelnetOutput`].
 #[derive(Drop)]
 pub struct Port {
-    mode: Mode,
+    mode: PortMode,
     reader: TelnetReader,
     keys: HeapCircularBuffer<Key>,
     output: TelnetOutput,
@@ -40,9 +42,19 @@ impl Model for Port {
     ghost invariant = { λ p. (p.keys.capacity ≡ key_places) × (p.output.capacity ≡ octet_places) };
 }
 
+impl Deref for Port {
+    type Target = TelnetOutput;
+
+    fn deref(&self) -> &TelnetOutput
+        ensures { result.now ≡ self.now.output }
+    {
+        &self.output
+    }
+}
+
 impl Port {
     /// A port for a new client. `AllocError` comes for want of memory; no other call wants any.
-    pub fn new(alloc: Global, mode: Mode) -> Result<Self, AllocError>
+    pub fn new(alloc: Global, mode: PortMode) -> Result<Self, AllocError>
         ensures { IfOk result (λ port. port ≡ begun mode) }
     {
         let keys = HeapCircularBuffer::with_capacity(alloc, MOST_KEYS)?;
@@ -71,11 +83,11 @@ impl Port {
         }
     }
 
-    /// Whether its client is one of telnet.
-    pub fn is_telnet(&self) -> bool
-        ensures { result ≡ is_telnet self.now.mode }
+    /// What the octets of its client are.
+    pub fn mode(&self) -> PortMode
+        ensures { result ≡ self.now.mode }
     {
-        self.mode.is_telnet()
+        self.mode
     }
 
     /// Whether it takes another octet of its client: there is room for its key and for an answer.
@@ -108,8 +120,8 @@ impl Port {
         ensures { self.new ≡ after_octet self.old octet }
     {
         let heard = match self.mode {
-            Mode::Telnet => self.reader.read(octet),
-            Mode::Raw => Heard::Typed(Key::Octet(octet)),
+            PortMode::Telnet => self.reader.read(octet),
+            PortMode::Raw => Heard::Typed(Key::Octet(octet)),
         };
         match heard {
             Heard::Nothing => {}
@@ -157,13 +169,6 @@ impl Port {
         self.keys.len()
     }
 
-    /// How many octets wait to be written.
-    pub fn waiting_octets(&self) -> usize
-        ensures { result ≡ length self.now.output.octets }
-    {
-        self.output.len()
-    }
-
     /// Drops the first `count` keys, which were typed or are not to be; all, if there are fewer.
     pub fn drop_keys(&mut self, count: usize)
         ensures { self.new ≡ record self.old { keys = buffer (drop count self.old.keys.items) self.old.keys.capacity } }
@@ -184,13 +189,6 @@ impl Port {
         }
     }
 
-    /// Whether there is room for any text of so many octets.
-    pub fn has_room(&self, text: usize) -> bool
-        ensures { result ≡ nat_le (length self.now.output.octets + (2 * text + 1)) self.now.output.capacity }
-    {
-        self.output.has_room(text)
-    }
-
     /// Shows text to the client, and says so, if there is room for its longest form. Otherwise nothing changes.
     pub fn show(&mut self, text: &[u8]) -> bool
         ensures shown { OnTrue result (self.new ≡ record self.old {
@@ -200,8 +198,8 @@ impl Port {
         ensures room { result ≡ nat_le (length self.old.output.octets + (2 * length text.now + 1)) self.old.output.capacity }
     {
         match self.mode {
-            Mode::Telnet => self.output.show(text),
-            Mode::Raw => self.output.pass(text),
+            PortMode::Telnet => self.output.show(text),
+            PortMode::Raw => self.output.pass(text),
         }
     }
 
@@ -214,14 +212,6 @@ impl Port {
             && nat_le (length self.old.output.octets + 4) self.old.output.capacity }
     {
         self.mode.is_telnet() && self.output.tell(command)
-    }
-
-    /// Octets that wait to be written, from the first on: some if there are any, and not always all.
-    pub fn waiting(&self) -> &[u8]
-        ensures front { take (length result.now) self.now.output.octets ≡ result.now }
-        ensures some { length result.now ≡ 0 → self.now.output.octets ≡ [] }
-    {
-        self.output.waiting()
     }
 
     /// Drops the first `count` octets that wait, which were written; all, if there are fewer.

@@ -6,7 +6,7 @@ use crate::shell::Shell;
 use crate::sockets::Leads;
 use crate::visits::Visit;
 use mio::net::TcpStream;
-use service::Mode;
+use service::PortMode;
 use std::io::{self, Write};
 use std::net::SocketAddr;
 
@@ -85,17 +85,11 @@ impl Shell<'_> {
             Some(entrance) => match entrance.leads {
                 Leads::Control => self.controls.iter().any(|place| place.is_none()),
                 Leads::Web => self.visits.iter().any(|place| place.is_none()),
-                Leads::Terminals(_, _, node) | Leads::Caller(_, node) => self.runs(service, node),
+                Leads::Terminals(_, _, node) | Leads::Caller(_, node) => {
+                    self.names.runs(service, node)
+                }
                 Leads::Line(_, _) | Leads::Equipment(_) => true,
             },
-            None => false,
-        }
-    }
-
-    /// Whether the node of a name has started.
-    fn runs(&self, service: &Running, name: &str) -> bool {
-        match self.names.number(name) {
-            Some(node) => service.net().runs(node),
             None => false,
         }
     }
@@ -211,7 +205,7 @@ fn peer_of(from: SocketAddr, leads: Leads<'_>) -> Peer {
 
 /// Closes the connection of one for whom there is no port. A client of telnet is told so.
 fn turn_away(mut stream: TcpStream, leads: Leads<'_>) {
-    if let Leads::Terminals(_, Mode::Telnet, _) = leads {
+    if let Leads::Terminals(_, PortMode::Telnet, _) = leads {
         let _ = stream.write(NO_TERMINAL);
     }
 }

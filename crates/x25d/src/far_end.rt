@@ -39,7 +39,7 @@ impl FarEnd {
     /// Joins the two ends, if they are not.
     pub(crate) fn join(&mut self, service: &mut Running) {
         if !self.is_joined {
-            service.line_made(self.line);
+            service.net_mut().line_made(self.line);
             self.remote.connected();
             self.is_joined = true;
         }
@@ -59,7 +59,7 @@ impl FarEnd {
             if count == 0 {
                 return moves > 0;
             }
-            service.line_written(self.line, count);
+            service.net_mut().line_written(self.line, count);
         }
         true
     }
@@ -91,7 +91,9 @@ impl FarEnd {
     /// Gives the network what this end has for it, and says whether that was anything.
     pub(crate) fn give(&mut self, service: &mut Running) -> bool {
         for moves in 0..MOST_MOVES {
-            let count = service.line_came(self.line, self.remote.waiting());
+            let count = service
+                .net_mut()
+                .line_came(self.line, self.remote.waiting());
             if count == 0 {
                 return moves > 0;
             }
@@ -110,7 +112,7 @@ impl FarEnd {
     ) -> Option<bool> {
         let mut told = None;
         for _ in 0..MOST_ORDERS {
-            match service.line_order(self.line) {
+            match service.net_mut().line_order(self.line) {
                 Some(LineOrder::Close(ending)) => {
                     log.line_closed(rt, self.number, ending);
                     self.part(service);
@@ -132,7 +134,7 @@ impl FarEnd {
 
     /// Parts the two ends: what is on the way between them is lost.
     fn part(&mut self, service: &mut Running) {
-        service.line_lost(self.line);
+        service.net_mut().line_lost(self.line);
         self.remote.lost();
         self.is_joined = false;
     }

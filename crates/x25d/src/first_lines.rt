@@ -1,7 +1,7 @@
 //! What a service prints when it begins.
 use crate::sockets::{Entrance, Leads, Sockets};
 use crate::words::CONTROL;
-use service::Mode;
+use service::PortMode;
 use std::io;
 use std::net::SocketAddr;
 
@@ -33,8 +33,8 @@ pub(crate) fn say_first(
 fn say_entrance(rt: &HostRuntime, entrance: &Entrance<'_>) -> io::Result<()> {
     let at = entrance.door.at();
     match entrance.leads {
-        Leads::Terminals(_, Mode::Telnet, _) => say_door(rt, "terminals  telnet", at),
-        Leads::Terminals(_, Mode::Raw, _) => say_door(rt, "terminals  raw", at),
+        Leads::Terminals(_, PortMode::Telnet, _) => say_door(rt, "terminals  telnet", at),
+        Leads::Terminals(_, PortMode::Raw, _) => say_door(rt, "terminals  raw", at),
         Leads::Caller(_, _) => say_door(rt, "callers    tcp", at),
         Leads::Line(_, _) => say_door(rt, "lines      tcp", at),
         Leads::Equipment(_) => say_door(rt, "equipment  xot", at),

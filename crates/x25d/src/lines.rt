@@ -138,13 +138,13 @@ impl<'a> Lines<'a> {
             Turn::Says { door } => self.meet(rt, service, log, number, door),
             Turn::Silent => self.turn_away(rt, log, number, None),
             Turn::Made(line) => {
-                service.line_made(line);
+                service.net_mut().line_made(line);
                 if let Some(wire) = self.wires.get_mut(number) {
                     wire.stand(line);
                 }
             }
             Turn::Lost(line) => {
-                service.line_lost(line);
+                service.net_mut().line_lost(line);
                 self.close(line);
                 self.lose(line);
             }
@@ -194,9 +194,9 @@ impl<'a> Lines<'a> {
     /// One who came gets the place of a line's connection.
     fn replace(&mut self, service: &mut Running, number: usize, line: usize) {
         self.close(line);
-        service.line_made(line);
+        service.net_mut().line_made(line);
         if let Some(wire) = self.wires.get_mut(number) {
-            service.line_came(line, wire.hello());
+            service.net_mut().line_came(line, wire.hello());
             wire.stand(line);
         }
     }
@@ -305,7 +305,7 @@ impl<'a> Lines<'a> {
                 continue;
             }
             for _ in 0..MOST_ORDERS {
-                let Some(order) = service.line_order(line) else {
+                let Some(order) = service.net_mut().line_order(line) else {
                     break;
                 };
                 self.obey_order(rt, log, line, order);

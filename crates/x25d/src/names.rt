@@ -81,17 +81,20 @@ impl<'a> Names<'a> {
     /// How far a line is.
     fn line_state(&self, service: &Running, number: usize, line: &LineConfig) -> LineState {
         match (
-            self.number(line.dte.as_str()),
-            self.number(line.dce.as_str()),
+            node_of(&self.config.nodes, line.dte.as_str()),
+            node_of(&self.config.nodes, line.dce.as_str()),
         ) {
             (Some(dte), Some(dce)) => line_state(service, number, dte, dce),
             _ => LineState::Elsewhere,
         }
     }
 
-    /// The number of the node of a name.
-    pub(crate) fn number(&self, name: &str) -> Option<usize> {
-        node_of(&self.config.nodes, name)
+    /// Whether the node of a name has started.
+    pub(crate) fn runs(&self, service: &Running, name: &str) -> bool {
+        match node_of(&self.config.nodes, name) {
+            Some(node) => service.net().runs(node),
+            None => false,
+        }
     }
 
     /// All routes.
@@ -146,7 +149,7 @@ impl<'a> Names<'a> {
         let line = self.config.lines.iter().find(|line| {
             !line.address.is_empty() && address.starts_with(line.address.as_str())
         })?;
-        self.number(line.dte.as_str())
+        node_of(&self.config.nodes, line.dte.as_str())
     }
 
     fn is_host(&self, node: usize) -> bool {

@@ -2,7 +2,7 @@
 use crate::faults::Fault;
 use mio::net::{TcpStream, UdpSocket};
 use mio::{Events, Interest, Poll, Token};
-use service::Mode;
+use service::PortMode;
 use service_files::{Allow, LineTable, ServiceFile, Way};
 use std::alloc::AllocError;
 use std::io;
@@ -17,7 +17,7 @@ const DATAGRAMS: Token = Token(usize::MAX);
 #[derive(Clone, Copy)]
 pub(crate) enum Leads<'a> {
     /// To the terminals of this table, with the name of their PAD.
-    Terminals(usize, Mode, &'a str),
+    Terminals(usize, PortMode, &'a str),
     /// To calls from this caller, with the name of its host.
     Caller(usize, &'a str),
     /// To lines to other processes; the first of those that come here has this number.

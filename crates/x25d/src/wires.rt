@@ -144,7 +144,7 @@ impl Wire {
     fn read(&mut self, service: &mut Running, line: usize) -> Turn {
         for _ in 0..MOST_CALLS {
             if !self.connection.unread().is_empty() {
-                let count = service.line_came(line, self.connection.unread());
+                let count = service.net_mut().line_came(line, self.connection.unread());
                 self.connection.taken(count);
             }
             match self.connection.read() {
@@ -166,7 +166,7 @@ impl Wire {
                 return;
             }
             match self.connection.write(service.net().line_waiting(line)) {
-                Written::Octets(count) => service.line_written(line, count),
+                Written::Octets(count) => service.net_mut().line_written(line, count),
                 Written::Nothing | Written::Loss => return,
             }
         }

@@ -1,4 +1,4 @@
-use Rattle.std.proofs.Common.{◌≡◌, arith}
+use Rattle.std.proofs.Common.{arith}
 use Rattle.service.proofs.AllTerminals.{delivers_none, delivers_more, delivers_all}
 use Rattle.service.proofs.exchange.Exchange.deliver_frames.Goals as goal
 

@@ -1,4 +1,4 @@
-use Rattle.std.proofs.Common.{◌≡◌, sym, ◌∙◌}
+use Rattle.std.proofs.Common.{sym, ap, ◌∙◌}
 use Rattle.service.specs.Serving.{WishesXon}
 use Rattle.service.proofs.Served.{xon_rests, xon_waits, key_hastened}
 use Rattle.service.proofs.exchange.Exchange.hasten.Goals as goal
@@ -13,4 +13,5 @@ returns-then-not-happen g c =
 pub returns : goal.returns
 returns g c =
     key_hastened g.L.Line.service c.args.at (WishesXon c.args.at) c.in-Some.place _ _ _ _ _ _ c.at_terminal.ensures
-    c.happen.ensures.does c.if-not-happen.false (sym c.in-Some.ensures) c.hastened.ensures
+    c.happen.ensures.does c.if-not-happen.false (sym c.in-Some.ensures)
+    (ap (λ port. record c.args.terminal.now { port = port }) c.drop_key.ensures)

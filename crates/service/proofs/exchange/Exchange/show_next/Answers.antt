@@ -1,4 +1,4 @@
-use Rattle.std.proofs.Common.{◌≡◌, sym, ap, ◌∙◌}
+use Rattle.std.proofs.Common.{sym, ◌∙◌}
 use Rattle.service.specs.Serving.{WishesText}
 use Rattle.service.proofs.Served.{text_rests, text_lent, text_idle, text_refused, text_fits}
 use Rattle.service.proofs.exchange.Exchange.show_next.Goals as goal

@@ -1,4 +1,4 @@
-use Rattle.std.proofs.Common.{◌≡◌, refl, ap, ◌∙◌}
+use Rattle.std.proofs.Common.{refl, ap, ◌∙◌}
 use Rattle.net_events.specs.declared.event.Event.TheVariants.{AtTerminal}
 use Rattle.service.specs.Serving.{WishesPresence}
 use Rattle.service.proofs.Served.{serves-none, none_untold, presence_heard, presence_waits}

@@ -1,4 +1,4 @@
-use Rattle.std.proofs.Common.{◌≡◌, sym, ap, ◌∙◌}
+use Rattle.std.proofs.Common.{sym, ap, ◌∙◌}
 use Rattle.net_events.specs.declared.event.Event.TheVariants.{AtTerminal}
 use Rattle.service.specs.Serving.{WishesKeys}
 use Rattle.service.proofs.Served.{key_rests, key_pressed, key_gives_way, keys_wait}
@@ -11,7 +11,8 @@ pub returns-then-happen : goal.returns-then-happen
 returns-then-happen g c =
     key_pressed g.L.Line.service c.args.at (WishesKeys c.args.at) c.in-Some.key _ _ _ _ _ _
     (c.at_terminal.ensures ∙ ap (λ event. AtTerminal c.args.at.node c.args.at.number event) c.key_event.ensures)
-    c.happen.ensures.does c.if-happen.true (sym c.in-Some.ensures) c.typed.ensures
+    c.happen.ensures.does c.if-happen.true (sym c.in-Some.ensures)
+    (ap (λ port. record c.args.terminal.now { port = port }) c.drop_keys.ensures)
 
 pub returns-then-hasten : goal.returns-then-hasten
 returns-then-hasten g c =

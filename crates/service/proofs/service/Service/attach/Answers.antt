@@ -1,4 +1,4 @@
-use Rattle.std.proofs.Common.{◌≡◌, ◌<◌, length, position, Some, sym, ◌∙◌, refl}
+use Rattle.std.proofs.Common.{◌≡◌, position, Some, sym, refl}
 use Rattle.service.specs.Terminals.{is_free_in}
 use Rattle.service.proofs.AllTerminals.{there_at}
 use Rattle.service.proofs.Keys.{found_within}
