@@ -14,6 +14,7 @@ import sys
 import threading
 import time
 
+import repository
 from serving import Failed
 
 PATIENCE = 30.0
@@ -506,9 +507,7 @@ def rejected() -> None:
 
 
 def main() -> int:
-    if len(sys.argv) > 1:
-        print(__doc__)
-        return 0 if sys.argv[1] in ("-h", "--help") else 2
+    repository.words_of(__doc__)
     failed = 0
     tries = [("no losses", lambda: talk(never)), ("each fifth frame lost", lambda: talk(every(5))),
              ("each eighth frame lost", lambda: talk(every(8))), ("FRMR", rejected)]

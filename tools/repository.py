@@ -1,6 +1,9 @@
 """What the tools share: where the repository is, its crates and programs, and the words that a tool is given."""
+import atexit
+import os
 import pathlib
 import re
+import select
 import sys
 
 TOP = pathlib.Path(__file__).resolve().parent.parent
@@ -71,3 +74,38 @@ def comment_at_head(file):
 def version():
     """The version, which one file has."""
     return (TOP / "VERSION").read_text().strip()
+
+
+# ---- a tool whose output nobody reads any more, as behind `head`, ends without a word
+
+
+def is_unread():
+    """Whether the output is a pipe that nobody reads."""
+    output = select.poll()
+    output.register(1, select.POLLOUT)
+    return any(event & select.POLLERR for _, event in output.poll(0))
+
+
+def drop_output():
+    """What is left of the output goes nowhere."""
+    os.dup2(os.open(os.devnull, os.O_WRONLY), 1)
+
+
+def tell_fault(kind, fault, trace):
+    """Tells of a fault that ends a tool, but of that one."""
+    if issubclass(kind, BrokenPipeError) and is_unread():
+        drop_output()
+    else:
+        sys.__excepthook__(kind, fault, trace)
+
+
+def write_rest():
+    """Writes what is left of the output as a tool ends."""
+    try:
+        sys.stdout.flush()
+    except BrokenPipeError:
+        drop_output()
+
+
+sys.excepthook = tell_fault
+atexit.register(write_rest)

@@ -12,6 +12,7 @@ import struct
 import sys
 import threading
 
+import repository
 from serving import Failed
 
 PATIENCE = 30.0
@@ -337,9 +338,7 @@ def refuse() -> None:
 
 
 def main() -> int:
-    if len(sys.argv) > 1:
-        print(__doc__)
-        return 0 if sys.argv[1] in ("-h", "--help") else 2
+    repository.words_of(__doc__)
     failed = 0
     tries = [("refused", refuse)]
     for extended, size, window in ((False, 128, 2), (False, 256, 7), (True, 512, 2), (True, 1024, 7), (True, 128, 20)):
