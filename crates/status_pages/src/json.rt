@@ -1,11 +1,12 @@
 //! A status as JSON.
-ghost use Rattle.std.specs.Prelude.{◌≡◌, Some, IfOk, map, string_bytes};
-ghost use Rattle.serde_json.specs.Data.{array};
+ghost use Rattle.std.specs.Prelude.{◌≡◌, Some, IfOk, OnOk, map, codes, string_bytes};
+ghost use Rattle.serde_json.specs.Data.{array, number, string, put as with_member};
+ghost use Rattle.serde_json.specs.Find.{of_integer};
 ghost use Rattle.serde_json.specs.Read.{read};
-ghost use Rattle.serde_json.specs.View.{view, items_of};
-ghost use Rattle.status_pages.specs.Data.{status_data, node_data, line_data, counts_data, call_data, octets_data, port_data, numbers_data};
+ghost use Rattle.serde_json.specs.View.{view, items_of, members_view};
+ghost use Rattle.status_pages.specs.Data.{status_data, node_data, line_data, counts_data, call_data, octets_data, port_data, numbers_data, count_data};
 
-use serde_json::{Value, json};
+use serde_json::{Map, Value, json, put};
 use status_texts::{
     CallLine, CallOctets, Counts, NetLine, NodeLine, PortLine, Status, kind_word, line_state_word,
     node_state_word,
@@ -22,10 +23,50 @@ pub fn status_json(alloc: Global, status: &Status<'_>) -> Result<String, AllocEr
 fn status_value(alloc: Global, status: &Status<'_>) -> Result<Value, AllocError>
     ensures { IfOk result (λ value. view value ≡ status_data status.now) }
 {
-    let (version, seconds) = (status.version, status.seconds);
-    json!(in alloc; {"version": version, "seconds": seconds, "nodes": nodes_value(alloc, &status.nodes)?,
-        "lines": lines_value(alloc, &status.lines)?, "counts": counts_value(alloc, status.counts)?,
-        "calls": calls_value(alloc, &status.calls)?, "ports": ports_value(alloc, &status.ports)?})
+    let mut members = Map::new(alloc);
+    add_network(&mut members, alloc, status)?;
+    add_use(&mut members, alloc, status)?;
+    Ok(Value::Object(members))
+}
+
+/// Adds what a status tells of the service and of its network.
+fn add_network(
+    members: &mut Map<String, Value>,
+    alloc: Global,
+    status: &Status<'_>,
+) -> Result<(), AllocError>
+    ensures { OnOk result (members_view members.new.entries
+        ≡ with_member (codes "lines") (array (items_of (map line_data status.now.lines.items)))
+        (with_member (codes "nodes") (array (items_of (map node_data status.now.nodes.items)))
+        (with_member (codes "seconds") (count_data status.now.seconds)
+        (with_member (codes "version") (string status.now.version.now) (members_view members.old.entries))))) }
+{
+    let version = Value::try_from_str(alloc, status.version)?;
+    put(members, alloc, "version", version)?;
+    put(members, alloc, "seconds", Value::from(status.seconds))?;
+    put(members, alloc, "nodes", nodes_value(alloc, &status.nodes)?)?;
+    put(members, alloc, "lines", lines_value(alloc, &status.lines)?)
+}
+
+/// Adds what a status tells of the clients, calls and ports.
+fn add_use(
+    members: &mut Map<String, Value>,
+    alloc: Global,
+    status: &Status<'_>,
+) -> Result<(), AllocError>
+    ensures { OnOk result (members_view members.new.entries
+        ≡ with_member (codes "ports") (array (items_of (map port_data status.now.ports.items)))
+        (with_member (codes "calls") (array (items_of (map call_data status.now.calls.items)))
+        (with_member (codes "counts") (counts_data status.now.counts) (members_view members.old.entries)))) }
+{
+    put(
+        members,
+        alloc,
+        "counts",
+        counts_value(alloc, status.counts)?,
+    )?;
+    put(members, alloc, "calls", calls_value(alloc, &status.calls)?)?;
+    put(members, alloc, "ports", ports_value(alloc, &status.ports)?)
 }
 
 fn nodes_value(alloc: Global, nodes: &[NodeLine<'_>]) -> Result<Value, AllocError>
@@ -85,10 +126,47 @@ fn calls_value(alloc: Global, calls: &[CallLine<'_>]) -> Result<Value, AllocErro
 fn call_value(alloc: Global, call: &CallLine<'_>) -> Result<Value, AllocError>
     ensures { IfOk result (λ value. view value ≡ call_data call.now) }
 {
-    let (from, to, node) = (call.from.as_str(), call.to.as_str(), call.node);
-    let (channel, since) = (call.channel, call.since);
-    json!(in alloc; {"from": from, "to": to, "node": node, "channel": channel, "since": since,
-        "octets": octets_value(alloc, call.octets)?, "over": numbers_value(alloc, &call.over)?})
+    let mut members = Map::new(alloc);
+    add_ends(&mut members, alloc, call)?;
+    add_course(&mut members, alloc, call)?;
+    Ok(Value::Object(members))
+}
+
+/// Adds the ends of a call: the addresses, and the channel of a node.
+fn add_ends(
+    members: &mut Map<String, Value>,
+    alloc: Global,
+    call: &CallLine<'_>,
+) -> Result<(), AllocError>
+    ensures { OnOk result (members_view members.new.entries
+        ≡ with_member (codes "channel") (count_data call.now.channel)
+        (with_member (codes "node") (string call.now.node.now)
+        (with_member (codes "to") (string (string_bytes call.now.to))
+        (with_member (codes "from") (string (string_bytes call.now.from)) (members_view members.old.entries))))) }
+{
+    let from = Value::try_from_str(alloc, call.from.as_str())?;
+    put(members, alloc, "from", from)?;
+    let to = Value::try_from_str(alloc, call.to.as_str())?;
+    put(members, alloc, "to", to)?;
+    let node = Value::try_from_str(alloc, call.node)?;
+    put(members, alloc, "node", node)?;
+    put(members, alloc, "channel", Value::from(call.channel))
+}
+
+/// Adds when a call began, its octets and the lines that it passes over.
+fn add_course(
+    members: &mut Map<String, Value>,
+    alloc: Global,
+    call: &CallLine<'_>,
+) -> Result<(), AllocError>
+    ensures { OnOk result (members_view members.new.entries
+        ≡ with_member (codes "over") (numbers_data call.now.over.items)
+        (with_member (codes "octets") (octets_data call.now.octets)
+        (with_member (codes "since") (number (of_integer call.now.since)) (members_view members.old.entries)))) }
+{
+    put(members, alloc, "since", Value::from(call.since))?;
+    put(members, alloc, "octets", octets_value(alloc, call.octets)?)?;
+    put(members, alloc, "over", numbers_value(alloc, &call.over)?)
 }
 
 fn octets_value(alloc: Global, octets: Option<CallOctets>) -> Result<Value, AllocError>

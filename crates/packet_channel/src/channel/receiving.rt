@@ -7,6 +7,7 @@ ghost use Rattle.data_transfer.specs.Packets.{Body as body};
 ghost use Rattle.packet_channel.specs.Channel as machine;
 ghost use Rattle.packet_channel.specs.Held.{Fits};
 ghost use Rattle.data_transfer.specs.Octets.{body_of};
+ghost use Rattle.data_transfer.specs.Traffic.{hears};
 ghost use Rattle.data_transfer.specs.HeardView.{heard_of};
 ghost use Rattle.packet_channel.specs.Done.{IsDone};
 ghost use Rattle.data_transfer.specs.declared.flow.Flow.{Flow as FlowValue};
@@ -16,7 +17,7 @@ use crate::control::Control;
 use crate::note::{LayerNote, Reason};
 use crate::notes::Notes;
 use crate::state::{ChannelState, End};
-use data_transfer::Heard;
+use data_transfer::{Flow, Heard};
 use flow_window::pool::Pool;
 use link_timers::Role;
 use packet_codec::{CallBuf, Content, Numbering, Packet, clear_cause, diagnostic};
@@ -263,24 +264,12 @@ impl Channel {
                 pool,
                 notes,
             ),
-            Content::Data(packet) => {
-                let heard = self.traffic.hear_data(end.flow, &packet, pool);
-                self.after_heard(end, heard, pool, notes)
-            }
-            Content::ReceiveReady(receive) => {
-                let heard = self.traffic.hear_ready(end.flow, receive, false);
-                self.after_heard(end, heard, pool, notes)
-            }
-            Content::ReceiveNotReady(receive) => {
-                let heard = self.traffic.hear_ready(end.flow, receive, true);
-                self.after_heard(end, heard, pool, notes)
-            }
-            Content::Interrupt(octets) => {
-                let heard = self.traffic.hear_interrupt(octets);
-                self.after_heard(end, heard, pool, notes)
-            }
-            Content::InterruptConfirmation => {
-                let heard = self.traffic.hear_interrupt_confirmation();
+            Content::Data(_)
+            | Content::ReceiveReady(_)
+            | Content::ReceiveNotReady(_)
+            | Content::Interrupt(_)
+            | Content::InterruptConfirmation => {
+                let heard = self.hear(end.flow, packet, pool);
                 self.after_heard(end, heard, pool, notes)
             }
             _ => self.not_allowed(end, pool, notes),
@@ -313,6 +302,30 @@ impl Channel {
             reason: Reason::FarEnd,
         });
         self.owe(Control::ResetConfirmation)
+    }
+
+    /// What a packet of data transfer does to the traffic.
+    fn hear(&mut self, flow: Flow, packet: &Packet<'_>, pool: &mut Pool) -> Heard
+        requires window { flow.window ≤ 32 }
+        requires most { flow.size ≤ 1024 }
+        requires content { IsContentOn flow.numbering flow.size packet.now.channel (content_view packet.now.content) }
+        requires state { self.old.channel.state ≡ machine.ChannelState.Transfer }
+        requires size { flow.size ≤ pool.old.size }
+        requires room { in_use pool.old < length pool.old.places }
+        ensures heard { heard_of result self.new.channel.traffic
+            ≡ hears flow self.old.channel.traffic (body_of (content_view packet.now.content)) }
+        ensures rest { self.new.channel ≡ record self.old.channel { traffic = self.new.channel.traffic } }
+        ensures pool { Balances pool.old self.old.held pool.new self.new.held }
+        ensures fits { Fits flow self.old → Fits flow self.new }
+    {
+        match &packet.content {
+            Content::Data(packet) => self.traffic.hear_data(flow, packet, pool),
+            Content::ReceiveReady(receive) => self.traffic.hear_ready(flow, *receive, false),
+            Content::ReceiveNotReady(receive) => self.traffic.hear_ready(flow, *receive, true),
+            Content::Interrupt(octets) => self.traffic.hear_interrupt(octets),
+            Content::InterruptConfirmation => self.traffic.hear_interrupt_confirmation(),
+            _ => Heard::Wrong(diagnostic::NO_INFORMATION),
+        }
     }
 
     /// What a packet of data transfer does besides what it does to the traffic.
