@@ -5,6 +5,10 @@ type that the code declares (`specs.declared` in an import) is a definition too:
 
 Words are followed by the imports of their file. Left out are words of the library `std`, fields after a dot, and names
 that are bound in the definition itself: parameters, patterns, fields.
+
+A type of values is followed only as far as it is looked at. If no definition that is needed reads or gives a field of a
+record, the type of this field is not needed: whatever it is, the statement says the same. So it is with what a constructor
+carries that no equation uses.
 """
 import functools
 import re
@@ -20,8 +24,9 @@ CONSTRUCTOR = re.compile(r"^  (?:pub )?([\w']+)(?: [\w' ]+)? :", re.M)
 SYNTAX = set("abbrev unfoldable pub record data where if then else let in Type infixr infixl with λ".split())
 DECLARED = ".specs.declared."
 
-# What is promised of calls, and of what terminals typed.
-PROMISE = ("CallsPromise",)
+# What is promised of calls and of what terminals typed, as the contract of a network names it, and in how many lines it
+# has to be said.
+PROMISE = {"PromisesCalls": 420}
 
 
 class Definition(typing.NamedTuple):
@@ -142,13 +147,14 @@ def bound(text):
     return found
 
 
-def patterns(definition, known):
-    """The names that the left sides of equations bind: what is no constructor."""
+def patterns(definition, known, names):
+    """The names that the left sides of equations bind: what is no constructor, nor one that is imported by another name."""
     found = set()
     for line in re.findall(rf"(?m)^{re.escape(definition.name)}(?=[ =])(.*?) =(?: |$)", definition.text):
         for word in WORD.finditer(line):
-            if not word["of"] and not is_constructor(known(word["name"]), word["name"]):
-                found.add(word["name"])
+            name = word["name"]
+            if not word["of"] and not is_constructor(known(name), names.get(name, ("", name))[1]):
+                found.add(name)
     return found
 
 
@@ -156,11 +162,66 @@ def is_constructor(definition, name):
     return definition is not None and name in definition.makes
 
 
+def needs(definition, looked):
+    """The definitions that a definition needs, where these names of fields and constructors are looked at."""
+    parts = parts_of(definition)
+    if parts is None:
+        return named_in(definition)
+    found = []
+    for name, part in parts:
+        types = named_in(definition, part)
+        if name in looked or not all(is_type(it) for it in types):
+            found += [it for it in types if it not in found]
+    return tuple(found)
+
+
+# A record or a data type without parameters, and one of its fields or constructors with what it has.
+OF_VALUES = re.compile(r"(?m)^pub (record|data) \S+ : Type 0 where$")
+PART = re.compile(r"(?ms)^  (?:pub )?([\w']+)((?: [\w']+)*) :(.*?)(?=^  (?:pub )?[\w']+(?: [\w']+)* :|\Z)")
+
+
 @functools.lru_cache(maxsize=None)
-def needs(definition):
-    """The definitions that a definition names, without itself."""
+def parts_of(definition):
+    """The fields of a type of values, or its constructors, each with its type; of anything else nothing."""
     if definition.file.suffix == ".rt":
-        return in_types(definition)
+        fields = re.findall(r"(?m)^    (?:pub(?:\(\w+\))? )?(\w+): ([^\n]*),$", definition.text)
+        return tuple(fields) if re.search(r"(?m)^(?:pub(?:\(\w+\))? )?struct ", definition.text) else None
+    text = without_comments(definition.text)
+    if not OF_VALUES.search(text):
+        return None
+    return tuple((name, part) for first, others, part in PART.findall(text) for name in (first, *others.split()))
+
+
+def is_type(definition):
+    """Whether it is a type of values, and no statement."""
+    text = without_comments(definition.text)
+    return definition.file.suffix == ".rt" or bool(OF_VALUES.search(text) or re.search(r"(?m)^abbrev pub \S+ : Type 0$", text))
+
+
+@functools.lru_cache(maxsize=None)
+def looked_at(definition):
+    """The fields that a definition reads or gives, and the constructors of which it uses what they carry."""
+    if definition.file.suffix == ".rt" or parts_of(definition) is not None:
+        return frozenset()
+    text = without_comments(definition.text)
+    found = set(re.findall(r"\.([\w']+)", text)) | set(re.findall(r"[{;]\s*([\w']+) =", text))
+    first, *equations = re.split(rf"(?m)^{re.escape(definition.name)}(?=[ =])", text)
+    found.update(it["name"] for it in WORD.finditer(first))
+    for equation in equations:
+        left, _, right = equation.partition(" =")
+        used = {name for it in WORD.finditer(right) for name in (it["of"], it["name"])}
+        found |= used
+        for name, rest in re.findall(r"\((?:\w+\.)?«?([\w']+)»?([^()]*\(?)", left):
+            if "(" in rest or used & set(rest.split()):
+                found.add(name)
+    return frozenset(found)
+
+
+@functools.lru_cache(maxsize=None)
+def named_in(definition, part=None):
+    """The definitions that a definition names, or one part of it, without itself."""
+    if definition.file.suffix == ".rt":
+        return in_types(definition, part)
     names, modules, _ = imports(definition.file)
     own = blocks(definition.file)
 
@@ -168,7 +229,9 @@ def needs(definition):
         return own[name] if name in own else find(*names[name]) if name in names else None
 
     text = LABEL.sub(r"\1", without_comments(definition.text))
-    locals_ = bound(text) | patterns(definition, known)
+    locals_ = bound(text) | patterns(definition, known, names)
+    if part is not None:
+        text = part
     operators = [known(it) for it in (*own, *names) if "◌" in it and f" {it.strip('◌')} " in text]
     found = [it for it in operators if it is not None and it.key() != definition.key()]
     for word in WORD.finditer(text):
@@ -184,10 +247,10 @@ def needs(definition):
     return tuple(found)
 
 
-def in_types(definition):
-    """The types of its own crate that an enum or a struct of the code names."""
+def in_types(definition, part):
+    """The types of its own crate that an enum or a struct of the code names, or a part of it."""
     crate = definition.file.relative_to(CRATES).parts[0]
-    body = re.sub(r"(?m)^\s*///?.*$", "", definition.text).partition("{")[2]
+    body = part or re.sub(r"(?m)^\s*///?.*$", "", definition.text).partition("{")[2]
     names = [it for it in re.findall(r"\b[A-Z]\w*", body) if it not in definition.makes]
     found = [in_code(crate, it) for it in dict.fromkeys(names)]
     return tuple(it for it in found if it is not None and it.key() != definition.key())
@@ -201,24 +264,32 @@ def named(name):
     return list(found.values())
 
 
-def below(roots):
-    """These definitions and all that they need, lowest first: crates in their order, and in a crate what is needed before
-    what needs it, file by file as far as that goes."""
+def closure(roots, looked):
+    """These definitions and all that they need, where these names of fields and constructors are looked at."""
     whole = {}
 
     def visit(definition):
         if definition.key() not in whole:
             whole[definition.key()] = definition
-            for it in needs(definition):
+            for it in needs(definition, looked):
                 visit(it)
 
     for root in roots:
         visit(root)
+    return whole
+
+
+def below(roots):
+    """These definitions and all that they need, lowest first: crates in their order, and in a crate what is needed before
+    what needs it, file by file as far as that goes."""
+    looked, whole = None, closure(roots, frozenset())
+    while looked != (now := frozenset().union(*map(looked_at, whole.values()))):
+        looked, whole = now, closure(roots, now)
     order = {crate: place for place, crate in enumerate(repository.crates())}
     left = sorted(whole.values(), key=lambda it: (order[it.file.relative_to(CRATES).parts[0]], str(it.file), it.place))
     done, sequence = set(), []
     while left:
-        free = [it for it in left if all(other.key() in done for other in needs(it))] or left[:1]
+        free = [it for it in left if all(other.key() in done for other in needs(it, looked))] or left[:1]
         last = sequence[-1].file if sequence else None
         it = next((it for it in free if it.file == last), free[0])
         left.remove(it)
@@ -233,12 +304,16 @@ def counted(sequence):
 
 
 def shown(sequence):
-    """The text of definitions, with the file above those that stand in it."""
-    last = None
+    """The text of definitions, with the file above those that stand in it, and below each the types that it names and
+    that nothing looks into."""
+    last, keys = None, {it.key() for it in sequence}
     for it in sequence:
         if it.file != last:
             yield f"== {it.file.relative_to(TOP)}"
             yield ""
         last = it.file
         yield it.text
+        others = [other.name for other in named_in(it) if other.key() not in keys]
+        if others:
+            yield f"-- nothing here looks into {', '.join(others)}"
         yield ""
