@@ -286,6 +286,7 @@ def called_back(program: str) -> None:
                 client.wait(b"Here is the library. You asked for Walden.\r\n")
                 client.wait(b"Shall we keep it?\r\n")
                 client.type("yes")
+                expect(server.process.stdout.readline(), f"listening at 127.0.0.1 {port}\n", "what the program says first")
                 expect(server.process.stdout.readline(), "yes\n", "what the program that called back was told")
         service.stop()
 

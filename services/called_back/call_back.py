@@ -36,4 +36,6 @@ class Server(socketserver.ThreadingTCPServer):
     allow_reuse_address, daemon_threads = True, True
 
 
-Server(("127.0.0.1", PORT), Taker).serve_forever()
+with Server(("127.0.0.1", PORT), Taker) as server, contextlib.suppress(KeyboardInterrupt):
+    print(f"listening at 127.0.0.1 {PORT}", flush=True)
+    server.serve_forever()

@@ -1,5 +1,6 @@
 #!/usr/bin/env python3
 """A library that is asked by lines: `line_server.py [PORT]`, at 127.0.0.1:8001 if no port is given."""
+import contextlib
 import socketserver
 import sys
 
@@ -27,4 +28,7 @@ class Server(socketserver.ThreadingTCPServer):
     allow_reuse_address, daemon_threads = True, True
 
 
-Server(("127.0.0.1", int(sys.argv[1]) if sys.argv[1:] else 8001), Reader).serve_forever()
+PORT = int(sys.argv[1]) if sys.argv[1:] else 8001
+with Server(("127.0.0.1", PORT), Reader) as server, contextlib.suppress(KeyboardInterrupt):
+    print(f"listening at 127.0.0.1 {PORT}", flush=True)
+    server.serve_forever()
