@@ -1,0 +1,12 @@
+mod Frames
+mod Took
+mod Ways
+mod Going
+mod Heads
+mod Well
+mod Moves
+mod Arrived
+mod Weights
+mod Ending
+mod Staying
+mod Rows
