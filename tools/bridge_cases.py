@@ -353,6 +353,71 @@ def full(program: str) -> None:
         expect(swapped(service.callers(), b"again"), digest(b"again"), "the digest of a call after many")
 
 
+def both_ends(program: str) -> None:
+    """Each of 30 calls at once has a bridge at both ends, and all are served: none of the 60 bridges is passed over."""
+    with bridged(program, says_back, says_back) as service:
+        with contextlib.ExitStack() as stack:
+            calls = [stack.enter_context(called(service.callers(1))) for _ in range(MANY - 2)]
+            for number, call in enumerate(calls):
+                call.sendall(b"%5d" % number)
+            seen = [said_back(call, 5) for call in calls]
+            expect(seen, [b"%5d" % number for number in range(MANY - 2)], "what 30 calls say back")
+
+
+def said_back(call: socket.socket, count: int) -> bytes:
+    """So many octets that come, or fewer if the connection is closed."""
+    octets = b""
+    with contextlib.suppress(OSError):
+        while len(octets) < count and (part := call.recv(count - len(octets))):
+            octets += part
+    return octets
+
+
+def callers_allowed(program: str) -> None:
+    """A caller's port lets in those alone that its table allows: a stranger gets no call."""
+    more = '[[caller]]\nhost = "archive"\nlisten = "127.0.0.1:0"\ncall = "2001"\nallow = ["10.0.0.0/8"]\n'
+    with bridged(program, says_back, rest=more) as service:
+        before = service.library.accepted
+        with called(service.callers(2)) as call:
+            with contextlib.suppress(OSError):
+                call.sendall(b"let me in")
+            expect(said(call), b"", "what a stranger gets at a caller's port")
+        service.wait_log(r"refused from=127\.0\.0\.1 at=" + re.escape(service.callers(2)))
+        expect(service.library.accepted, before, "how many calls came of it")
+
+
+def all_taken(program: str) -> None:
+    """Terminals and callers share the connections that there may be. No more come in: they are told, and closed."""
+    with bridged(program, says_back, connections=3, numbers=("2002",)) as service, contextlib.ExitStack() as stack:
+        clients = [stack.enter_context(Client(service.terminals())) for _ in range(2)]
+        for client in clients:
+            client.wait(b"clears the call.\r\n")
+        call = stack.enter_context(called(service.callers(1)))
+        call.sendall(b"a")
+        expect(said(call), b"a", "what a call within the limit says back")
+        with called(service.callers(1)) as over:
+            with contextlib.suppress(OSError):
+                over.sendall(b"x")
+            expect(said(over), b"", "what a call over the limit says back")
+        with Client(service.terminals()) as over:
+            over.wait(b"All terminals are taken.")
+            over.wait_end()
+        break_off(call)
+        wait_until(lambda: service.ask("status").count(" in use ") == 2, "the end of the call")
+        with called(service.callers(1)) as again:
+            again.sendall(b"b")
+            expect(said(again), b"b", "what a call says back once there is a place")
+
+
+def silent_askers(program: str) -> None:
+    """Four who connect to the control port and say nothing do not keep the status from others: their time ends."""
+    with bridged(program, says_back) as service, contextlib.ExitStack() as stack:
+        for _ in range(4):
+            stack.enter_context(reach(service.control))
+        if "node desk pad up" not in service.ask("status"):
+            raise Failed("the status was not told beside four who are silent")
+
+
 def said(call: socket.socket) -> bytes:
     """The first octet that comes, none if the connection is closed."""
     try:
@@ -429,5 +494,5 @@ def told_once(program: str) -> None:
         service.stop()
 
 
-CASES = (one_way, both_ways, half_close, never_taken, killed_service, dialled, hello, refused, late, several,
-         all_at_once, reset, killed_client, full, stopped, told, told_once, flat)
+CASES = (one_way, both_ways, half_close, never_taken, killed_service, both_ends, all_taken, silent_askers, callers_allowed,
+         dialled, hello, refused, late, several, all_at_once, reset, killed_client, full, stopped, told, told_once, flat)
