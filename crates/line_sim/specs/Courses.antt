@@ -130,16 +130,16 @@ given_to line place terminal [] = []
 given_to line place terminal (e ∷ es) = given_in line place terminal e ++ given_to line place terminal es
 
 -- the course of a PAD is what the events brought to it: at each of its terminals it has the keys, breaks, ends of an
--- idle time, printing, leaving and arriving that were given, in order; each record of the PAD has sent what was typed, and of itself what
--- its occasions in this course ask for; and what was typed on a call are keys and idle times of this course at
--- one terminal, in order, that came while the call stood
+-- idle time, printing, leaving and arriving that were given, in order; each record of the PAD has sent what was typed,
+-- and of itself what its occasions in this course ask for; and its steps are the keys and the ends of idle times that
+-- this course typed on its call, all of them and no other, in order and at one terminal
 pub record PadHasRun (c : PadConfig) (line place : ℕ) (events : List Event) (course : List PadEvent)
     (net : Network) : Type 0 where
   pub led : HasCourse c line place course net
   pub given : (terminal : ℕ) → terminal < c.terminals → had_at terminal course ≡ given_to line place terminal events
   pub sent : (i : ℕ) (r : RecordValue) → slice_get net.register.records i ≡ Some r → r.node ≡ place
       → HasTyped r × HasSaid (led.course.occasions i) r
-  pub typed : AreTyped Dte c course net.register.records place
+  pub typed : AreTyped Dte c course led.course led.led net.register.records place
 
 -- it is so of each PAD over one run
 pub record PadsHaveRun (config : Config) (events : List Event) (net : Network) : Type 0 where

@@ -9,7 +9,7 @@ ghost use Rattle.net_nodes.specs.Faults.{step_fault};
 ghost use Rattle.net_nodes.specs.Happening.{IsRefusedSo};
 ghost use Rattle.net_nodes.specs.Questions.{net_confirmed, net_shows, net_room_to_say, net_rests};
 ghost use Rattle.net_nodes.specs.Questions.{MaySay, PrintsNothing};
-ghost use Rattle.network_laws.specs.Switched.InnerPromise.{NetworkPromise};
+ghost use Rattle.network_laws.specs.Switched.InnerPromise.{PromisesCalls, InnerPromise};
 ghost use Rattle.network_laws.specs.Switched.SwitchedRest.{MissesNothing, IsDelivered};
 ghost use Rattle.line_sim.specs.Between.{IsBetweenEvents};
 ghost use Rattle.line_sim.specs.Courses.{HaveNoEvent, CoursesPass};
@@ -89,7 +89,9 @@ impl<L: Line> LiveNet<L> {
         ensures between { IfOk result (λ net. IsBetweenEvents L.service (on (register_made config.now) net)) }
         ensures courses { IfOk result (λ net. HaveNoEvent config.now (on (register_made config.now) net)) }
         ensures headline { IfOk result (λ net. L.service.faithful
-            → NetworkPromise (on (register_made config.now) net)) }
+            → PromisesCalls (on (register_made config.now) net)) }
+        ensures inner { IfOk result (λ net. L.service.faithful
+            → InnerPromise (on (register_made config.now) net)) }
         ensures stored { IfOk result (λ net. HasNoRecords net.register) }
     {
         Ok(LiveNet {
@@ -147,7 +149,9 @@ impl<L: Line> LiveNet<L> {
             → IsBetweenEvents L.service (on g self.new) }
         ensures courses { (g : Register) → CoursesPass ticks (on g self.old) (on g self.new) }
         ensures headline { (g : Register) → IsBetweenEvents L.service (on g self.old) → L.service.faithful
-            → NetworkPromise (on g self.new) }
+            → PromisesCalls (on g self.new) }
+        ensures inner { (g : Register) → IsBetweenEvents L.service (on g self.old) → L.service.faithful
+            → InnerPromise (on g self.new) }
     {
         self.nodes.elapse(ticks);
     }

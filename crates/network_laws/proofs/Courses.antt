@@ -137,8 +137,8 @@ sent_course s promise c own place events h i r at is =
 
 pub typed_course : TypedCourse
 typed_course s promise c own place events h =
-    subst (λ (node : ℕ). AreTyped Dte c events s.register.records node) (own_node s promise c own place events h)
-    (subst (λ (b : Book). AreTyped Dte c events b.records (node_at Dte b)) h.book (typed_so Dte c events h.course h.led))
+    subst (λ (node : ℕ). AreTyped Dte c events h.course h.led s.register.records node) (own_node s promise c own place events h)
+    (subst (λ (b : Book). AreTyped Dte c events h.course h.led b.records (node_at Dte b)) h.book (typed_so Dte c events h.course h.led))
 
 -- ---- an event at a node with users
 

@@ -104,7 +104,8 @@ SentCourse = (s : Network) → InnerPromise s → (c : PadConfig) (own place : �
     → (h : HasCourse c own place events s) → (i : ℕ) (r : RecordValue) → slice_get s.register.records i ≡ Some r
     → r.node ≡ place → HasTyped r × HasSaid (h.course.occasions i) r
 
--- and its steps are keys and idle times of this course at one terminal, in order, that came while its call stood
+-- and its steps are the keys and the ends of idle times that this course typed on its call, all of them and no other, in
+-- order and at one terminal
 abbrev pub TypedCourse : Type 0
 TypedCourse = (s : Network) → InnerPromise s → (c : PadConfig) (own place : ℕ) (events : List PadEvent)
-    → HasCourse c own place events s → AreTyped Dte c events s.register.records place
+    → (h : HasCourse c own place events s) → AreTyped Dte c events h.course h.led s.register.records place

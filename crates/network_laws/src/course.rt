@@ -8,8 +8,8 @@ use frame_lines::Line;
 /// PAD is that of the network's own events: it begins with none when the network is made. An event at the PAD makes it
 /// go on by this event, with the octets of a frame as they arrive, and time by the ticks that pass. An event at another
 /// node, at a switch or on a line leaves it as it is. Each record of the PAD has sent what was typed, and of itself what
-/// its occasions in this course ask for. What was typed on a call are keys and idle times of this course at one
-/// terminal, which came while the call stood (X.3; X.28 3.3; X.29 4.4).
+/// its occasions in this course ask for. The steps of a record are the keys and the ends of idle times that this course
+/// has at one terminal while the call stood: each that is text and was taken, and no other (X.3; X.28 3.3; X.29 4.4).
 pub fn pad_course_law<L: Line>()
     ensures made { MadeCourse L.service }
     ensures own { OwnCourse L.service }

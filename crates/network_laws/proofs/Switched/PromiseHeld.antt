@@ -296,6 +296,7 @@ module _ (L : LineService) (s : Network) (p : IsSwitched L s) (a : IsAddressed s
     inner = record {
       registered = a.registered;
       nodes = all_ends.nodes;
+      there = λ line l role at. (let e = (p.lines line l at).there role in (e.node, e.there));
       records = records_hold L s p f;
       ends = end_holds L s p f;
       placed = placed_holds L s p f;

@@ -35,6 +35,9 @@ pub record InnerPromise (s : Network) : Type 0 where
   pub registered : length s.register.lines ≡ length s.lines
   pub nodes : (line : ℕ) (l : NetLine) (role : Role) → slice_get s.lines line ≡ Some l
       → (side_of role (book_at line s.register)).node ≡ place_at role l
+  -- a node is at each end of each line: without a switch, one with users
+  pub there : (line : ℕ) (l : NetLine) (role : Role) → slice_get s.lines line ≡ Some l
+      → (n : NetNode) × (slice_get s.nodes (place_at role l) ≡ Some n)
   -- each present record is open and of the node at its end, at no other channel; each open record is present
   pub records : HasRecords s.register
   -- the ends of lines at which nodes with users stand

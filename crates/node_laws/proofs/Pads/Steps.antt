@@ -160,7 +160,7 @@ print_adds a = next_adds a.port.call (port.taken_of a) (port.with_terminal (call
 -- ---- keys and idle times
 
 -- what goes into the text of a terminal on its call is noted first
-abbrev edit_note : InputAnswer → Step → Option ℕ → List ChannelNote
+abbrev pub edit_note : InputAnswer → Step → Option ℕ → List ChannelNote
 edit_note (input.Edited block) step (Some call) = notes.Edited call step ∷ []
 edit_note (input.Edited block) step None = []
 edit_note input.Dropped step o = []
@@ -236,7 +236,7 @@ input_of (HasIdleTime number) p = idle_at number (pad.runs_idle_timer number p) 
 input_of (HasExpiry (Idle number)) p = idle_at number (pad.runs_idle_timer number p) p
 input_of _ p = None
 
-abbrev note_of : Option Input → List ChannelNote
+abbrev pub note_of : Option Input → List ChannelNote
 note_of None = []
 note_of (Some i) = edit_note i.answer i.step i.call
 
@@ -263,7 +263,7 @@ expiry_adds : (runs : Bool) (id : TimerId) (p : PadState) → p.line.notes ≡ [
 expiry_adds true id p nothing = line_adds (pad.with_expiry p id)
 expiry_adds false id p nothing = no_note p.line.notes nothing
 
-event_adds : (event : PadEvent) (p : PadState) → p.line.notes ≡ [] → Adds (note_of (input_of event p)) (after_event event p).line.notes
+pub event_adds : (event : PadEvent) (p : PadState) → p.line.notes ≡ [] → Adds (note_of (input_of event p)) (after_event event p).line.notes
 event_adds (HasKey number octet) p nothing =
     input_adds number (port.after_key octet) (λ a. (port.key_input octet a).answer) (λ a. key octet a.port.terminal.settings.params)
     (λ a none. handles_adds (port.key_input octet a).answer (key octet a.port.terminal.settings.params) (record a { port = record a.port { terminal = (port.key_input octet a).terminal; idle_left = None } }) none) p

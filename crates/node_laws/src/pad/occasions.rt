@@ -24,9 +24,11 @@ pub fn event_course_law()
     ensures { EventCourseLaw }
 {}
 
-/// The law of what was typed on each call, over definitions alone. The steps of editing of a record are events of the
-/// course, in order: keys and ends of idle times of one terminal. When each came, the terminal had its call on a channel
-/// whose present record this was. So they came while the call stood. No two records share one (X.3 3.3, 3.4; X.28 3.5).
+/// The law of what was typed on each call, over definitions alone. The steps of editing of a record are what the events
+/// of the course typed on its call: in order each key that is text and was taken, and each end of an idle time that ran
+/// and was not dropped, with the values that the parameters then had. The terminal then had its call on a channel whose
+/// present record this was, so they came while the call stood. All of a call were typed at one terminal (X.3 3.3, 3.4;
+/// X.28 3.5).
 pub fn typed_law()
     ensures { TypedLaw }
 {}

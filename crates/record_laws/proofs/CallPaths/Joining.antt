@@ -48,6 +48,7 @@ records_joined plan os js a b seen whole n h = record {
   records = λ i k at. more_record plan os js os (with_new js a b) (join_extends plan os js a b) seen whole i k (h.records i k at);
   numbered = h.numbered;
   nodes = h.nodes;
+  named = h.named;
   callers = h.callers;
   joined = λ c d j. elim (old_or_new js a b c d j) [
     | inl old ↦ h.joined c d old
@@ -135,7 +136,7 @@ module _ (plan : Plan) (js : List Join) (line : ℕ) (role : Role) (switch : pla
       let ks : List Join = with_new js a b in
       let t : RecordValue = new_record b (side_of role x.whole).node (address_of (calling_from (side_of role x.whole).address calling)) (address_of called) None in
       let grown : Extends plan x.origins js os js = switch_extends plan x.origins js o switch in
-      let first : Leads plan js line x os x.seen (with_record t x.whole) = adds_whole plan js line x o t switch (λ k e. absurd (none-some k e)) (h.sides role).whole_node h in
+      let first : Leads plan js line x os x.seen (with_record t x.whole) = adds_whole plan js line x o t switch (λ k e. absurd (none-some k e)) (h.sides role).whole_node refl h in
       let y : Beside = after plan js line x os x.seen (with_record t x.whole) first in
       let within : a < length x.origins = slice_get_within x.origins a i.origin i.there in
       let count : length x.origins ≡ b = h.records.count in

@@ -95,6 +95,7 @@ made_seen plan lines h = record {
     records = λ n m at. absurd (none-some m at);
     numbered = λ n r at. absurd (none-some r at);
     nodes = λ m o r at there. absurd (none-some o at);
+    named = λ m o r at there. absurd (none-some o at);
     callers = λ m x o at came. absurd (none-some o at);
     joined = λ a b j. absurd (none-some _ j.there);
     joined_once = λ a b c j k. absurd (none-some _ j.there);

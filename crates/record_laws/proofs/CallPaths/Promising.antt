@@ -19,7 +19,7 @@ use Rattle.record_laws.specs.CallPaths.PathPromise.{IsOfEnd, address_at, IsPlace
 use Rattle.record_laws.proofs.Registers.Positions.{IsNth, place_of, rises_from}
 use Rattle.record_laws.proofs.Registers.Steps.{same_place}
 use Rattle.record_laws.specs.CallPaths.World.{Origin, Join, placing, World, Plan, AreAddressed, calling_on}
-use Rattle.record_laws.specs.CallPaths.Seen.{kind, numbers, CameFrom, Way, Begins, own_on, own_of, shown, RecordIsShown, JoinIsSeen, PairIsSeen, PairCame, Seen}
+use Rattle.record_laws.specs.CallPaths.Seen.{kind, numbers, CameFrom, Way, Begins, BeginsIf, own_on, own_of, shown, RecordIsShown, JoinIsSeen, PairIsSeen, PairCame, Seen}
 use Rattle.record_laws.specs.CallPaths.Seen.Way.{here, onward}
 use Rattle.record_laws.specs.CallPaths.Tree.{WayOver}
 use Rattle.record_laws.specs.CallPaths.Tree.WayOver.{here as stands_here, onward as goes_on}
@@ -110,6 +110,19 @@ module _ (plan : Plan) (w : World) (addressed : AreAddressed plan) (s : Seen pla
 
   came_from : (q : ℕ) (pair : PairValue) (p : PairOf q pair) → CameFrom w.origins p.whole.callee p.whole.caller
   came_from q pair p = record { origin = p.came.origin; there = p.came.there; came = p.came.came }
+
+  -- the callee's record names the one at the beginning of the way
+  named_first : (q : ℕ) (pair : PairValue) (p : PairOf q pair) (o whole : Option ℕ) → BeginsIf plan w.origins w.joins o whole → whole ≡ Some p.whole.caller → o ≡ Some pair.caller
+  named_first q pair p None None b e = absurd (none-some p.whole.caller e)
+  named_first q pair p (Some n) None b e = absurd b
+  named_first q pair p None (Some last) b e = absurd b
+  named_first q pair p (Some n) (Some last) b e =
+      let same : last ≡ p.whole.caller = same_Some last p.whole.caller e in
+      let first : b.first ≡ p.caller.first =
+      one_first plan w.origins w.joins s.records.placed_once s.records.joined b.first p.whole.caller
+      (subst (λ (k : ℕ). Way w.origins w.joins b.first k) same b.way) p.caller.first p.caller.way
+      (record { number = n; numbered = b.numbered }) (record { number = pair.caller; numbered = p.caller.numbered }) in
+      ap (λ (k : ℕ). Some k) (same_place 1 (map (kind plan) w.origins) n pair.caller b.first b.numbered (p.caller.numbered ∙ ap (λ (k : ℕ). Some k) (sym first)))
 
   -- ---- each pair holds
 
@@ -286,6 +299,7 @@ module _ (plan : Plan) (w : World) (addressed : AreAddressed plan) (s : Seen pla
         callee = callee_shown;
         caller_there = from.seen_there;
         callee_there = to.seen_there;
+        named = named_first q pair p to.caller to.value.caller to.begins (s.records.named y p.came.origin to.value p.came.there to.whole_there ∙ p.came.came);
         matches = record {
           onward = all_match to.value from.value on;
           backward = all_match from.value to.value back;

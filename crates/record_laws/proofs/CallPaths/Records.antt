@@ -62,6 +62,16 @@ module _ (plan : Plan) (os : List Origin) (js : List Join) where
         | inr e ↦ ap (λ (x : RecordValue). x.node) e.1 ∙ h m o old.0 origin old.1
       ]
 
+  changed_named : (whole : List RecordValue) (k : ℕ) (f : RecordValue → RecordValue) → IsMild f
+      → ((m : ℕ) (o : Origin) (r : RecordValue) → slice_get os m ≡ Some o → slice_get whole m ≡ Some r → r.caller ≡ o.caller)
+      → (m : ℕ) (o : Origin) (r : RecordValue) → slice_get os m ≡ Some o → slice_get (changed_at k f whole) m ≡ Some r → r.caller ≡ o.caller
+  changed_named whole k f mild h m o r origin at =
+      let old = get_changed whole k f m r at in
+      elim old.2 [
+        | inl e ↦ ap (λ (x : RecordValue). x.caller) e.1 ∙ mild.caller old.0 ∙ h m o old.0 origin old.1
+        | inr e ↦ ap (λ (x : RecordValue). x.caller) e.1 ∙ h m o old.0 origin old.1
+      ]
+
   changed_numbers : (seen : List RecordValue) (k : ℕ) (f : RecordValue → RecordValue) → IsMild f
       → ((n : ℕ) (r : RecordValue) → slice_get seen n ≡ Some r → r.number ≡ n) → (n : ℕ) (r : RecordValue) → slice_get (changed_at k f seen) n ≡ Some r → r.number ≡ n
   changed_numbers seen k f mild h n r at =
@@ -107,6 +117,7 @@ module _ (plan : Plan) (os : List Origin) (js : List Join) where
     records = λ i k there. changed_shown seen whole f n m i k mild at there (number_is i n) (h.records i k there);
     numbered = changed_numbers seen n f mild h.numbered;
     nodes = changed_nodes whole m f mild h.nodes;
+    named = changed_named whole m f mild h.named;
     callers = h.callers;
     joined = h.joined;
     joined_once = h.joined_once;
@@ -156,6 +167,7 @@ module _ (plan : Plan) (os : List Origin) (js : List Join) where
     records = λ i k there. hop_shown seen whole hop n i k (number_is i n) (h.records i k there);
     numbered = hop_numbers seen hop n h.numbered;
     nodes = h.nodes;
+    named = h.named;
     callers = h.callers;
     joined = h.joined;
     joined_once = h.joined_once;
@@ -181,6 +193,7 @@ module _ (plan : Plan) (os : List Origin) (js : List Join) where
         };
     numbered = h.numbered;
     nodes = changed_nodes whole m f mild h.nodes;
+    named = changed_named whole m f mild h.named;
     callers = h.callers;
     joined = h.joined;
     joined_once = h.joined_once;
@@ -222,6 +235,23 @@ module _ (plan : Plan) (os : List Origin) (js : List Join) where
         ]
       ]
 
+  added_named : (whole : List RecordValue) (o : Origin) (t : RecordValue) → length os ≡ length whole → t.caller ≡ o.caller
+      → ((m : ℕ) (p : Origin) (r : RecordValue) → slice_get os m ≡ Some p → slice_get whole m ≡ Some r → r.caller ≡ p.caller)
+      → (m : ℕ) (p : Origin) (r : RecordValue) → slice_get (os ++ o ∷ []) m ≡ Some p → slice_get (whole ++ t ∷ []) m ≡ Some r → r.caller ≡ p.caller
+  added_named whole o t count name h m p r at there =
+      elim (get_pushed os o m p at) [
+        | inl origin ↦ elim (get_pushed whole t m r there) [
+          | inl before ↦ h m p r origin before
+          | inr last ↦
+              let less = slice_get_within os m p origin in let end = last.0 in absurd (omega arith)
+        ]
+        | inr new ↦ elim (get_pushed whole t m r there) [
+          | inl before ↦
+              let less = slice_get_within whole m r before in let end = new.0 in absurd (omega arith)
+          | inr last ↦ ap (λ (x : RecordValue). x.caller) last.1 ∙ name ∙ ap (λ (x : Origin). x.caller) (sym new.1)
+        ]
+      ]
+
   added_shown : (seen whole : List RecordValue) (o : Origin) (r t : RecordValue) (c : Option ℕ) → plan.has_user o.line o.role ≡ true
       → r ≡ shown plan o (length seen) c [] t → BeginsIf plan os js c t.caller → RecordsAreSeen plan os js seen whole → (i k : ℕ)
       → (slice_get (numbers plan os) i ≡ Some k) ⊎ ((i ≡ length (numbers plan os)) × (k ≡ length os))
@@ -252,9 +282,9 @@ module _ (plan : Plan) (os : List Origin) (js : List Join) where
   }
 
   pub added_both : (seen whole : List RecordValue) (o : Origin) (r t : RecordValue) (c : Option ℕ) → plan.has_user o.line o.role ≡ true → CallerIsThere o
-      → r ≡ shown plan o (length seen) c [] t → BeginsIf plan os js c t.caller → t.node ≡ plan.node o.line o.role
+      → r ≡ shown plan o (length seen) c [] t → BeginsIf plan os js c t.caller → t.node ≡ plan.node o.line o.role → t.caller ≡ o.caller
       → RecordsAreSeen plan os js seen whole → RecordsAreSeen plan (os ++ o ∷ []) js (seen ++ r ∷ []) (whole ++ t ∷ [])
-  added_both seen whole o r t c user caller is begins node h = record {
+  added_both seen whole o r t c user caller is begins node name h = record {
     count = length_pushed os o ∙ ap suc h.count ∙ sym (length_pushed whole t);
     seen_count = length_pushed seen r ∙ ap suc h.seen_count ∙ sym (length_pushed (numbers plan os) (length os)) ∙ ap (λ (ns : List ℕ). length ns) (sym (numbers_user plan os o user));
     records = λ i k there. added_shown seen whole o r t c user is begins h i k
@@ -264,6 +294,7 @@ module _ (plan : Plan) (os : List Origin) (js : List Join) where
       | inr last ↦ ap (λ (y : RecordValue). y.number) (last.1 ∙ is) ∙ sym last.0
     ];
     nodes = added_nodes whole o t h.count node h.nodes;
+    named = added_named whole o t h.count name h.named;
     callers = added_callers o caller h.callers;
     joined = λ a b j. more_join plan os js (os ++ o ∷ []) js (user_extends plan os js o user) a b (h.joined a b j);
     joined_once = h.joined_once;
@@ -271,9 +302,9 @@ module _ (plan : Plan) (os : List Origin) (js : List Join) where
   }
 
   pub added_whole : (seen whole : List RecordValue) (o : Origin) (t : RecordValue) → plan.has_user o.line o.role ≡ false → CallerIsThere o
-      → t.node ≡ plan.node o.line o.role
+      → t.node ≡ plan.node o.line o.role → t.caller ≡ o.caller
       → RecordsAreSeen plan os js seen whole → RecordsAreSeen plan (os ++ o ∷ []) js seen (whole ++ t ∷ [])
-  added_whole seen whole o t switch caller node h = record {
+  added_whole seen whole o t switch caller node name h = record {
     count = length_pushed os o ∙ ap suc h.count ∙ sym (length_pushed whole t);
     seen_count = h.seen_count ∙ ap (λ (ns : List ℕ). length ns) (sym (numbers_switch plan os o switch));
     records = λ i k there.
@@ -290,6 +321,7 @@ module _ (plan : Plan) (os : List Origin) (js : List Join) where
         };
     numbered = h.numbered;
     nodes = added_nodes whole o t h.count node h.nodes;
+    named = added_named whole o t h.count name h.named;
     callers = added_callers o caller h.callers;
     joined = λ a b j. more_join plan os js (os ++ o ∷ []) js (switch_extends plan os js o switch) a b (h.joined a b j);
     joined_once = h.joined_once;

@@ -142,18 +142,18 @@ module _ (plan : Plan) (js : List Join) (line : ℕ) where
   -- ---- a record more
 
   pub adds_both : (x : Beside) (o : Origin) (r t : RecordValue) (c : Option ℕ) → plan.has_user o.line o.role ≡ true → CallerIsThere plan x.origins js o
-      → r ≡ shown plan o (length x.seen.records) c [] t → BeginsIf plan x.origins js c t.caller → t.node ≡ plan.node o.line o.role → IsRight plan js line x
+      → r ≡ shown plan o (length x.seen.records) c [] t → BeginsIf plan x.origins js c t.caller → t.node ≡ plan.node o.line o.role → t.caller ≡ o.caller → IsRight plan js line x
       → Leads plan js line x (x.origins ++ o ∷ []) (with_record r x.seen) (with_record t x.whole)
-  adds_both x o r t c user caller is begins node h =
+  adds_both x o r t c user caller is begins node name h =
       adds x (x.origins ++ o ∷ []) (x.seen.records ++ r ∷ []) (x.whole.records ++ t ∷ []) (user_extends plan x.origins js o user) h
-      (added_both plan x.origins js x.seen.records x.whole.records o r t c user caller is begins node h.records)
+      (added_both plan x.origins js x.seen.records x.whole.records o r t c user caller is begins node name h.records)
 
   pub adds_whole : (x : Beside) (o : Origin) (t : RecordValue) → plan.has_user o.line o.role ≡ false → CallerIsThere plan x.origins js o
-      → t.node ≡ plan.node o.line o.role → IsRight plan js line x
+      → t.node ≡ plan.node o.line o.role → t.caller ≡ o.caller → IsRight plan js line x
       → Leads plan js line x (x.origins ++ o ∷ []) x.seen (with_record t x.whole)
-  adds_whole x o t switch caller node h =
+  adds_whole x o t switch caller node name h =
       adds x (x.origins ++ o ∷ []) x.seen.records (x.whole.records ++ t ∷ []) (switch_extends plan x.origins js o switch) h
-      (added_whole plan x.origins js x.seen.records x.whole.records o t switch caller node h.records)
+      (added_whole plan x.origins js x.seen.records x.whole.records o t switch caller node name h.records)
 
   pub newest : (x : Beside) (o : Origin) → plan.has_user o.line o.role ≡ true → IsRight plan js line x
       → slice_get (numbers plan (x.origins ++ o ∷ [])) (length x.seen.records) ≡ Some (length x.whole.records)

@@ -92,11 +92,11 @@ module _ (plan : Plan) (js : List Join) (line : ℕ) (role : Role) where
         (record (slot_at role c x.whole) { present = None; caller = None }) first.is_right (closed_slot x.origins (slot_at role c x.seen) (slot_at role c x.whole) (slot_seen x h role c)))
 
     adds_and_puts : (x : Beside) (o : Origin) (r t : RecordValue) (k : Option ℕ) (c : ℕ) (s u : Slot) → IsRight plan js line x → plan.has_user o.line o.role ≡ true
-        → CallerIsThere plan x.origins js o → r ≡ shown plan o (length x.seen.records) k [] t → BeginsIf plan x.origins js k t.caller → t.node ≡ plan.node o.line o.role
+        → CallerIsThere plan x.origins js o → r ≡ shown plan o (length x.seen.records) k [] t → BeginsIf plan x.origins js k t.caller → t.node ≡ plan.node o.line o.role → t.caller ≡ o.caller
         → SlotIsSeen plan (x.origins ++ o ∷ []) js line role s u
         → Leads plan js line x (x.origins ++ o ∷ []) (with_slot role c s (with_record r x.seen)) (with_slot role c u (with_record t x.whole))
-    adds_and_puts x o r t k c s u h user_there caller is begins node w =
-        let first : Leads plan js line x (x.origins ++ o ∷ []) (with_record r x.seen) (with_record t x.whole) = adds_both plan js line x o r t k user_there caller is begins node h in
+    adds_and_puts x o r t k c s u h user_there caller is begins node name w =
+        let first : Leads plan js line x (x.origins ++ o ∷ []) (with_record r x.seen) (with_record t x.whole) = adds_both plan js line x o r t k user_there caller is begins node name h in
         then plan js line x (x.origins ++ o ∷ []) (with_record r x.seen) (with_record t x.whole) (x.origins ++ o ∷ []) (with_slot role c s (with_record r x.seen)) (with_slot role c u (with_record t x.whole)) first
         (puts_both plan js line (after plan js line x (x.origins ++ o ∷ []) (with_record r x.seen) (with_record t x.whole) first) role c s u first.is_right w)
 
@@ -120,7 +120,7 @@ module _ (plan : Plan) (js : List Join) (line : ℕ) (role : Role) where
         (new_record m (side_of role x.whole).node (address_of (calling_from (side_of role x.whole).address calling)) (address_of called) None) None c
         (record { present = Some n; placed = Some n; caller = None }) (record { present = Some m; placed = Some m; caller = None }) h user
         (λ k e. absurd (none-some k e))
-        (ap₂ (λ (node : ℕ) (own : Option (List ℕ)). new_record n node own (address_of called) None) (same_node x h) (own_placed x calling h)) tt (h.sides role).whole_node
+        (ap₂ (λ (node : ℕ) (own : Option (List ℕ)). new_record n node own (address_of called) None) (same_node x h) (own_placed x calling h)) tt (h.sides role).whole_node refl
         (record {
           present = as_present (x.origins ++ o ∷ []) (Some n) (Some m) (newest plan js line x o user h);
           caller = no_caller (x.origins ++ o ∷ []) (plan.has_user line role);
@@ -141,7 +141,7 @@ module _ (plan : Plan) (js : List Join) (line : ℕ) (role : Role) where
         (new_record m (side_of role x.whole).node (address_of parts.called) (address_of parts.calling) whole_caller) seen_caller c
         (record { present = Some n; placed = (slot_at role c x.seen).placed; caller = seen_caller })
         (record { present = Some m; placed = (slot_at role c x.whole).placed; caller = whole_caller }) h user
-        (caller_there x h c) (ap (λ (node : ℕ). new_record n node (address_of parts.called) (address_of parts.calling) seen_caller) (same_node x h)) (slot_seen x h (other_of role) c).placed (h.sides role).whole_node
+        (caller_there x h c) (ap (λ (node : ℕ). new_record n node (address_of parts.called) (address_of parts.calling) seen_caller) (same_node x h)) (slot_seen x h (other_of role) c).placed (h.sides role).whole_node refl
         (record {
           present = as_present (x.origins ++ o ∷ []) (Some n) (Some m) (newest plan js line x o user h);
           caller = as_caller (x.origins ++ o ∷ []) seen_caller whole_caller
@@ -241,7 +241,7 @@ module _ (plan : Plan) (js : List Join) (line : ℕ) (role : Role) where
         let m : ℕ = length x.whole.records in
         let more : Extends plan x.origins js (x.origins ++ o ∷ []) js = switch_extends plan x.origins js o switch in
         let t : RecordValue = new_record m (side_of role x.whole).node (address_of parts.called) (address_of parts.calling) (slot_at (other_of role) c x.whole).placed in
-        let first : Leads plan js line x (x.origins ++ o ∷ []) x.seen (with_record t x.whole) = adds_whole plan js line x o t switch (caller_there x h c) (h.sides role).whole_node h in
+        let first : Leads plan js line x (x.origins ++ o ∷ []) x.seen (with_record t x.whole) = adds_whole plan js line x o t switch (caller_there x h c) (h.sides role).whole_node refl h in
         let s : Slot = slot_at role c x.seen in
         let u : Slot = record { present = Some m; placed = (slot_at role c x.whole).placed; caller = (slot_at (other_of role) c x.whole).placed } in
         then plan js line x (x.origins ++ o ∷ []) x.seen (with_record t x.whole) (x.origins ++ o ∷ []) x.seen (comes role c parts x.whole) first

@@ -80,6 +80,8 @@ pub record PathHolds (plan : Plan) (g : Register) (pair : PairValue) : Type 0 wh
   pub callee : RecordValue
   pub caller_there : slice_get g.records pair.caller ≡ Some caller
   pub callee_there : slice_get g.records pair.callee ≡ Some callee
+  -- the record of the end that was called names that of the caller
+  pub named : callee.caller ≡ Some pair.caller
   pub matches : PathMatches caller callee
   -- without a hop it is so packet by packet
   pub direct : caller.path ≡ [] → IsTakenFrom caller callee × IsTakenFrom callee caller

@@ -141,6 +141,8 @@ pub record RecordsAreSeen (plan : Plan) (origins : List Origin) (joins : List Jo
   pub numbered : (n : ℕ) (r : RecordValue) → slice_get seen n ≡ Some r → r.number ≡ n
   pub nodes : (m : ℕ) (o : Origin) (r : RecordValue) → slice_get origins m ≡ Some o → slice_get whole m ≡ Some r
       → r.node ≡ plan.node o.line o.role
+  pub named : (m : ℕ) (o : Origin) (r : RecordValue) → slice_get origins m ≡ Some o → slice_get whole m ≡ Some r
+      → r.caller ≡ o.caller
   pub callers : (m x : ℕ) (o : Origin) → slice_get origins m ≡ Some o → o.caller ≡ Some x
       → slice_get origins x ≡ Some (placing o.line (other_of o.role))
   pub joined : (a b : ℕ) → IsJoined joins a b → JoinIsSeen plan origins a b

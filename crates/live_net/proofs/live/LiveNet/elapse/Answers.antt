@@ -18,5 +18,9 @@ returns-clause-courses g c = rw (← c.self.view_is, c.elapse.ensures) (λ regis
     time_course (on register c.self.inside.nodes) c.args.ticks pad line place events h)
 
 pub returns-clause-headline : goal.returns-clause-headline
-returns-clause-headline g c = rw (← c.self.view_is, c.elapse.ensures) (λ register between.
-    promise_any g.L.Line.service _ (elapsed g.L.Line.service (on register c.self.inside.nodes) c.args.ticks between).any)
+returns-clause-headline g c = rw (← c.self.view_is, c.elapse.ensures) (λ register between faithful.
+    (promise_any g.L.Line.service _ (elapsed g.L.Line.service (on register c.self.inside.nodes) c.args.ticks between).any faithful).calls)
+
+pub returns-clause-inner : goal.returns-clause-inner
+returns-clause-inner g c = rw (← c.self.view_is, c.elapse.ensures) (λ register between faithful.
+    (promise_any g.L.Line.service _ (elapsed g.L.Line.service (on register c.self.inside.nodes) c.args.ticks between).any faithful).inner)

@@ -15,7 +15,12 @@ pub returns-clause-courses : goal.returns-clause-courses
 returns-clause-courses g c = courses_on g.L.Line.service c.args.config.now _ c.in_ok-bare_nodes.ensures.ok
 
 pub returns-clause-headline : goal.returns-clause-headline
-returns-clause-headline g c = promise_on g.L.Line.service c.args.config.now _ c.in_ok-bare_nodes.ensures.ok
+returns-clause-headline g c =
+    λ faithful. (promise_on g.L.Line.service c.args.config.now _ c.in_ok-bare_nodes.ensures.ok faithful).calls
+
+pub returns-clause-inner : goal.returns-clause-inner
+returns-clause-inner g c =
+    λ faithful. (promise_on g.L.Line.service c.args.config.now _ c.in_ok-bare_nodes.ensures.ok faithful).inner
 
 pub returns-clause-stored : goal.returns-clause-stored
 returns-clause-stored g c = stored_made g.L.Line.service c.args.config.now _ c.in_ok-bare_nodes.ensures.ok
