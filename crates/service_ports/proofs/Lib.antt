@@ -4,3 +4,4 @@ pub mod PortsHeard
 pub mod ClientReading
 pub mod ClientKeys
 pub mod Answering
+pub mod Counting

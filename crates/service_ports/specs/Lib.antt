@@ -4,4 +4,5 @@ pub mod Reading
 pub mod Writing
 pub mod Modes
 pub mod Ports
+pub mod Counting
 pub mod ClientForm

@@ -3,6 +3,8 @@
 
 mod command;
 mod input;
+mod key_counts;
+mod key_queue;
 mod law;
 mod mode;
 mod options;

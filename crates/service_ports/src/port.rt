@@ -8,15 +8,12 @@ ghost use Rattle.service_ports.specs.Writing.{with_command};
 
 use crate::command::{ECHO, SUPPRESS_GO_AHEAD, TelnetCommand};
 use crate::input::{Heard, Key, TelnetReader};
+use crate::key_queue::KeyQueue;
 use crate::mode::PortMode;
 use crate::output::TelnetOutput;
-use circular_buffer::HeapCircularBuffer;
 use std::alloc::{AllocError, Global};
 use std::marker::Model;
 use std::ops::Deref;
-
-/// How many keys may wait to be typed.
-pub const MOST_KEYS: usize = 2048;
 
 /// How many octets may wait to be written.
 pub const MOST_OCTETS: usize = 16_384;
@@ -27,7 +24,7 @@ pub const MOST_OCTETS: usize = 16_384;
 pub struct Port {
     mode: PortMode,
     reader: TelnetReader,
-    keys: HeapCircularBuffer<Key>,
+    keys: KeyQueue,
     output: TelnetOutput,
 }
 
@@ -57,7 +54,7 @@ impl Port {
     pub fn new(alloc: Global, mode: PortMode) -> Result<Self, AllocError>
         ensures { IfOk result (λ port. port ≡ begun mode) }
     {
-        let keys = HeapCircularBuffer::with_capacity(alloc, MOST_KEYS)?;
+        let keys = KeyQueue::new(alloc)?;
         let output = TelnetOutput::new(alloc, MOST_OCTETS)?;
         let mut port = Port {
             mode,
@@ -94,7 +91,7 @@ impl Port {
     pub fn wants(&self) -> bool
         ensures { result ≡ takes_octet self.now }
     {
-        self.keys.len() < self.keys.capacity() && self.output.has_command_room()
+        self.keys.has_room() && self.output.has_command_room()
     }
 
     /// Takes octets of its client, from the first on, as long as it takes any. The answer is how many were taken.
@@ -125,41 +122,32 @@ impl Port {
         };
         match heard {
             Heard::Nothing => {}
-            Heard::Typed(key) => self.push_key(key),
+            Heard::Typed(key) => self.keys.push(key),
             Heard::Answered(command) => {
                 let _ = self.output.tell(command);
             }
         }
     }
 
-    fn push_key(&mut self, key: Key)
-        requires { length self.old.keys.items < self.old.keys.capacity }
-        ensures { self.new ≡ record self.old {
-          keys = buffer (self.old.keys.items ++ key ∷ []) self.old.keys.capacity;
-        } }
-    {
-        let _ = self.keys.try_push_back(key);
-    }
-
     /// The key that is to be typed next.
     pub fn next_key(&self) -> Option<Key>
         ensures { result ≡ slice_get self.now.keys.items 0 }
     {
-        self.keys.front().copied()
+        self.keys.first()
     }
 
     /// The place of the first key that waits and is a break or of this octet.
     pub fn find_key(&self, octet: u8) -> Option<usize>
         ensures { result ≡ position (is_break_or octet) self.now.keys.items }
     {
-        self.keys.iter().position(|key| is_break_or(*key, octet))
+        self.keys.find_break_or(octet)
     }
 
     /// The place of the first key that waits and is of this octet.
     pub fn find_octet(&self, octet: u8) -> Option<usize>
         ensures { result ≡ position (is_octet octet) self.now.keys.items }
     {
-        self.keys.iter().position(|key| is_octet(*key, octet))
+        self.keys.find_octet(octet)
     }
 
     /// How many keys wait to be typed.
@@ -173,8 +161,7 @@ impl Port {
     pub fn drop_keys(&mut self, count: usize)
         ensures { self.new ≡ record self.old { keys = buffer (drop count self.old.keys.items) self.old.keys.capacity } }
     {
-        let left = self.keys.len().saturating_sub(count);
-        self.keys.truncate_front(left);
+        self.keys.drop_front(count);
     }
 
     /// Drops the key of this place, which was typed before its turn. If there is none, nothing changes.
@@ -183,10 +170,7 @@ impl Port {
           keys = buffer (remove self.old.keys.items place) self.old.keys.capacity;
         } }
     {
-        if place < self.keys.len() {
-            bring_forward(self.keys.make_contiguous(), place);
-            self.keys.pop_front();
-        }
+        self.keys.remove(place);
     }
 
     /// Shows text to the client, and says so, if there is room for its longest form. Otherwise nothing changes.
@@ -222,30 +206,4 @@ impl Port {
     {
         self.output.written(count);
     }
-}
-
-/// Moves the key of a place before all others.
-fn bring_forward(keys: &mut [Key], place: usize)
-    requires { place < length keys.old }
-    ensures len { length keys.new ≡ length keys.old }
-    ensures others { drop 1 keys.new ≡ remove keys.old place }
-{
-    keys[..=place].rotate_right(1);
-}
-
-/// Whether a key is a break or of this octet.
-fn is_break_or(key: Key, octet: u8) -> bool
-    ensures { result ≡ is_break_or octet key }
-{
-    match key {
-        Key::Octet(typed) => typed == octet,
-        Key::Break => true,
-    }
-}
-
-/// Whether a key is of this octet.
-fn is_octet(key: Key, octet: u8) -> bool
-    ensures { result ≡ is_octet octet key }
-{
-    matches!(key, Key::Octet(typed) if typed == octet)
 }

@@ -1,0 +1,11 @@
+use Rattle.std.proofs.Common.{rules, ◌≡◌, sym, ap, ◌∙◌, position}
+use Rattle.service_ports.specs.Ports.{is_octet}
+use Rattle.service_ports.proofs.Counting.{octet_absent}
+use Rattle.service_ports.proofs.key_queue.KeyQueue.find_octet.Goals as goal
+
+pub returns-then-not-has_octet : goal.returns-then-not-has_octet
+returns-then-not-has_octet c =
+    let same : c.args.self.now.items ≡ c.self.inside.keys.items = search rules in
+    sym (ap (λ keys. position (is_octet c.args.octet) keys) same
+    ∙ octet_absent c.self.inside.keys.items c.self.inside.counts c.args.octet c.has_octet.result c.self.invariant.0
+    c.ranges.octet.fits c.has_octet.ensures c.if-not-has_octet.true)
